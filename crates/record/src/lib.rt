@@ -1,0 +1,13 @@
+//! Records: everything that enters or leaves the product is one of nine kinds of them.
+//! A record is two bytes of body length, two bytes of kind, then the body; numbers are little-endian.
+
+mod fields;
+mod kinds;
+mod reader;
+mod writer;
+
+pub use kinds::Record;
+pub use kinds::Row;
+pub use kinds::Tally;
+pub use reader::read_record;
+pub use reader::Reading;
