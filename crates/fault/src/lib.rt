@@ -122,7 +122,7 @@ pub struct Fault {
     pub layer: Layer,
 }
 
-impl fmt::Display for Layer as LayerDisplay {
+pub impl fmt::Display for Layer as LayerDisplay {
     fn fmt<W: fmt::Write>(&self, f: &mut fmt::Formatter<W>) -> fmt::Result {
         match self {
             Layer::Record => f.write_str("record"),
@@ -136,7 +136,7 @@ impl fmt::Display for Layer as LayerDisplay {
     }
 }
 
-impl fmt::Display for Cause as CauseDisplay {
+pub impl fmt::Display for Cause as CauseDisplay {
     fn fmt<W: fmt::Write>(&self, f: &mut fmt::Formatter<W>) -> fmt::Result {
         match self {
             Cause::OutOfRange(n) => write!(f, "{n} is out of range"),
@@ -163,7 +163,7 @@ impl fmt::Display for Cause as CauseDisplay {
     }
 }
 
-impl fmt::Display for Fault as FaultDisplay {
+pub impl fmt::Display for Fault as FaultDisplay {
     fn fmt<W: fmt::Write>(&self, f: &mut fmt::Formatter<W>) -> fmt::Result {
         let number = self.cause.number();
         let place = self.cause.place();

@@ -20,7 +20,7 @@ put-more ys zs xs was now at l p q =
     let start : was ≡ ys ++ drop (length ys) xs = p ∙ rw zero-add in
     let front : take at was ≡ ys = rw start (take-at ys (drop (length ys) xs) at l) in
     let back : drop (at + length zs) was ≡ drop (0 + length (ys ++ zs)) xs =
-        sym (drop-drop (length zs) at was) ∙ rw (start, drop-at ys (drop (length ys) xs) at l, drop-drop, length-append, zero-add) in
+    sym (drop-drop (length zs) at was) ∙ rw (start, drop-at ys (drop (length ys) xs) at l, drop-drop, length-append, zero-add) in
     q ∙ rw (front, back)
 
 -- a header and a body, said in two ways

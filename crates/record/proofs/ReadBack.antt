@@ -134,6 +134,7 @@ body-lt (refused n l p e) h = lit< tt
 body-lt (ended n) h = lit< tt
 
 pub reads-back : (e : Entry) → Lawful e → ReadsBack (bytesOf e) e
-reads-back e h tail =
-    ( answer-frame (kindOf e) (bodyOf e) tail (kind-lt e) (body-lt e h) ∙ decode-body e h
-    , rest-frame (kindOf e) (bodyOf e) tail (kind-lt e) (body-lt e h) )
+reads-back e h tail = (
+  answer-frame (kindOf e) (bodyOf e) tail (kind-lt e) (body-lt e h) ∙ decode-body e h,
+  rest-frame (kindOf e) (bodyOf e) tail (kind-lt e) (body-lt e h),
+)

@@ -8,21 +8,21 @@ ghost use mir.Val.{toZ};
 ghost use mir.Syntax.{w64};
 ghost use Rattle.record.specs.Little.{field};
 
-pub fn u16_at(bytes: &[u8], at: usize) -> u16
+pub(crate) fn u16_at(bytes: &[u8], at: usize) -> u16
     requires { ⌜ at + 2 ≤ length (now bytes) ⌝ }
     ensures { λ r. ⌜ r ≡ field at 2 (now (bytes .entry)) ⌝ }
 {
     u16::from_le_bytes([bytes[at], bytes[at + 1]])
 }
 
-pub fn u32_at(bytes: &[u8], at: usize) -> u32
+pub(crate) fn u32_at(bytes: &[u8], at: usize) -> u32
     requires { ⌜ at + 4 ≤ length (now bytes) ⌝ }
     ensures { λ r. ⌜ r ≡ field at 4 (now (bytes .entry)) ⌝ }
 {
     u32::from_le_bytes([bytes[at], bytes[at + 1], bytes[at + 2], bytes[at + 3]])
 }
 
-pub fn i64_at(bytes: &[u8], at: usize) -> i64
+pub(crate) fn i64_at(bytes: &[u8], at: usize) -> i64
     requires { ⌜ at + 8 ≤ length (now bytes) ⌝ }
     ensures { λ r. ⌜ r ≡ toZ w64 (field at 8 (now (bytes .entry))) ⌝ }
 {

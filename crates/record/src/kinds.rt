@@ -25,7 +25,11 @@ impl Row<'_> {
     pub fn get(&self, class: usize) -> Option<u16>
         ensures { λ r. ⌜ r ≡ nth (rowIn (now (now (self .entry) .bytes))) class ⌝ }
     {
-        if class < self.len() { Some(u16_at(self.bytes, 2 * class)) } else { None }
+        if class < self.len() {
+            Some(u16_at(self.bytes, 2 * class))
+        } else {
+            None
+        }
     }
 }
 
@@ -47,7 +51,11 @@ impl Tally<'_> {
     pub fn get(&self, class: usize) -> Option<i64>
         ensures { λ r. ⌜ r ≡ nth (tallyIn (now (now (self .entry) .bytes))) class ⌝ }
     {
-        if class < self.len() { Some(i64_at(self.bytes, 8 * class)) } else { None }
+        if class < self.len() {
+            Some(i64_at(self.bytes, 8 * class))
+        } else {
+            None
+        }
     }
 }
 

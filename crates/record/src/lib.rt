@@ -4,10 +4,14 @@
 mod fields;
 mod kinds;
 mod reader;
+mod text;
 mod writer;
 
 pub use kinds::Record;
 pub use kinds::Row;
 pub use kinds::Tally;
-pub use reader::read_record;
 pub use reader::Reading;
+pub use reader::read_record;
+pub use text::RecordDisplay;
+pub use text::RowDisplay;
+pub use text::TallyDisplay;

@@ -48,7 +48,10 @@ pub fn read_record(bytes: &[u8]) -> (Reading<'_>, &[u8])
 fn cut_short<'a>(bytes: &[u8]) -> Reading<'a>
     ensures { λ r. ⌜ seen r ≡ refusal 16 (size (now (bytes .entry))) ⌝ }
 {
-    Reading::Faulty(Fault { cause: Cause::CutShort(bytes.len()), layer: Layer::Record })
+    Reading::Faulty(Fault {
+        cause: Cause::CutShort(bytes.len()),
+        layer: Layer::Record,
+    })
 }
 
 /// The record of this kind with this body.
@@ -65,14 +68,20 @@ fn unpack(kind: u16, body: &[u8]) -> Reading<'_>
         35 => unpack_closed(body),
         36 => unpack_refused(body),
         37 => unpack_end(body),
-        _ => Reading::Faulty(Fault { cause: Cause::KindNotAllowed(kind), layer: Layer::Record }),
+        _ => Reading::Faulty(Fault {
+            cause: Cause::KindNotAllowed(kind),
+            layer: Layer::Record,
+        }),
     }
 }
 
 fn unfit<'a>(body: &[u8]) -> Reading<'a>
     ensures { λ r. ⌜ seen r ≡ refusal 18 (size (now (body .entry))) ⌝ }
 {
-    Reading::Faulty(Fault { cause: Cause::LengthUnfit(body.len()), layer: Layer::Record })
+    Reading::Faulty(Fault {
+        cause: Cause::LengthUnfit(body.len()),
+        layer: Layer::Record,
+    })
 }
 
 fn unpack_set_up(body: &[u8]) -> Reading<'_>
@@ -85,7 +94,12 @@ fn unpack_set_up(body: &[u8]) -> Reading<'_>
     let classes = u16_at(body, 4);
     let plan = u16_at(body, 6);
     let grant = u32_at(body, 8);
-    Reading::Found(Record::SetUp { station, classes, plan, grant })
+    Reading::Found(Record::SetUp {
+        station,
+        classes,
+        plan,
+        grant,
+    })
 }
 
 fn unpack_open(body: &[u8]) -> Reading<'_>
@@ -94,7 +108,9 @@ fn unpack_open(body: &[u8]) -> Reading<'_>
     if body.len() != 2 {
         return unfit(body);
     }
-    Reading::Found(Record::Open { horizon: u16_at(body, 0) })
+    Reading::Found(Record::Open {
+        horizon: u16_at(body, 0),
+    })
 }
 
 fn unpack_step(body: &[u8]) -> Reading<'_>
@@ -103,7 +119,9 @@ fn unpack_step(body: &[u8]) -> Reading<'_>
     if !few_counts(2, body.len()) {
         return unfit(body);
     }
-    Reading::Found(Record::Step { row: Row { bytes: body } })
+    Reading::Found(Record::Step {
+        row: Row { bytes: body },
+    })
 }
 
 fn unpack_close(body: &[u8]) -> Reading<'_>
@@ -124,7 +142,11 @@ fn unpack_opened(body: &[u8]) -> Reading<'_>
     let serial = u32_at(body, 0);
     let horizon = u16_at(body, 4);
     let held = u32_at(body, 6);
-    Reading::Found(Record::Opened { serial, horizon, held })
+    Reading::Found(Record::Opened {
+        serial,
+        horizon,
+        held,
+    })
 }
 
 fn unpack_published(body: &[u8]) -> Reading<'_>
@@ -135,7 +157,11 @@ fn unpack_published(body: &[u8]) -> Reading<'_>
     }
     let serial = u32_at(body, 0);
     let step = u16_at(body, 4);
-    Reading::Found(Record::Published { serial, step, tally: Tally { bytes: &body[6..] } })
+    Reading::Found(Record::Published {
+        serial,
+        step,
+        tally: Tally { bytes: &body[6..] },
+    })
 }
 
 fn unpack_closed(body: &[u8]) -> Reading<'_>
@@ -147,7 +173,11 @@ fn unpack_closed(body: &[u8]) -> Reading<'_>
     let serial = u32_at(body, 0);
     let steps = u16_at(body, 4);
     let spent = u32_at(body, 6);
-    Reading::Found(Record::Closed { serial, steps, spent })
+    Reading::Found(Record::Closed {
+        serial,
+        steps,
+        spent,
+    })
 }
 
 fn unpack_refused(body: &[u8]) -> Reading<'_>
@@ -160,7 +190,12 @@ fn unpack_refused(body: &[u8]) -> Reading<'_>
     let layer = u16_at(body, 2);
     let place = u32_at(body, 4);
     let event = u32_at(body, 8);
-    Reading::Found(Record::Refused { number, layer, place, event })
+    Reading::Found(Record::Refused {
+        number,
+        layer,
+        place,
+        event,
+    })
 }
 
 fn unpack_end(body: &[u8]) -> Reading<'_>
@@ -169,7 +204,9 @@ fn unpack_end(body: &[u8]) -> Reading<'_>
     if body.len() != 4 {
         return unfit(body);
     }
-    Reading::Found(Record::End { records: u32_at(body, 0) })
+    Reading::Found(Record::End {
+        records: u32_at(body, 0),
+    })
 }
 
 /// Whether a body part of this length is one to eight counts of `width` bytes.

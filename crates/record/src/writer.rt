@@ -25,11 +25,17 @@ impl Record<'_> {
     {
         let counts = self.counts();
         if counts < 1 || counts > 8 {
-            return Err(Fault { cause: Cause::LengthUnfit(counts), layer: Layer::Record });
+            return Err(Fault {
+                cause: Cause::LengthUnfit(counts),
+                layer: Layer::Record,
+            });
         }
         let size = self.size();
         if size > out.len() {
-            return Err(Fault { cause: Cause::NoRoom(out.len()), layer: Layer::Publication });
+            return Err(Fault {
+                cause: Cause::NoRoom(out.len()),
+                layer: Layer::Publication,
+            });
         }
         self.store(out);
         Ok(size)
@@ -72,14 +78,36 @@ impl Record<'_> {
         ensures reads_back { λ _. ⌜ ReadsBack (bytesOf (entryOf (now (self .entry)))) (entryOf (now (self .entry))) ⌝ }
     {
         match self {
-            Record::SetUp { station, classes, plan, grant } => put_set_up(out, *station, *classes, *plan, *grant),
+            Record::SetUp {
+                station,
+                classes,
+                plan,
+                grant,
+            } => put_set_up(out, *station, *classes, *plan, *grant),
             Record::Open { horizon } => put_open(out, *horizon),
             Record::Step { row } => put_step(out, row.bytes),
             Record::Close => put_header(out, 4, 0),
-            Record::Opened { serial, horizon, held } => put_opened(out, *serial, *horizon, *held),
-            Record::Published { serial, step, tally } => put_published(out, *serial, *step, tally.bytes),
-            Record::Closed { serial, steps, spent } => put_closed(out, *serial, *steps, *spent),
-            Record::Refused { number, layer, place, event } => put_refused(out, *number, *layer, *place, *event),
+            Record::Opened {
+                serial,
+                horizon,
+                held,
+            } => put_opened(out, *serial, *horizon, *held),
+            Record::Published {
+                serial,
+                step,
+                tally,
+            } => put_published(out, *serial, *step, tally.bytes),
+            Record::Closed {
+                serial,
+                steps,
+                spent,
+            } => put_closed(out, *serial, *steps, *spent),
+            Record::Refused {
+                number,
+                layer,
+                place,
+                event,
+            } => put_refused(out, *number, *layer, *place, *event),
             Record::End { records } => put_end(out, *records),
         }
     }

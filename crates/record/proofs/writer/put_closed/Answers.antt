@@ -9,5 +9,7 @@ use Rattle.record.proofs.writer.put_closed.Needs as need
 
 pub returns : need.returns
 returns c =
-    record { stores = c .put-epoch .ensures
-           ; reads-back = reads-back (closed (c .args .serial) (c .args .steps) (c .args .spent)) (c .fits .serial .fits, c .fits .steps .fits, c .fits .spent .fits) }
+    record {
+      stores = c .put-epoch .ensures;
+      reads-back = reads-back (closed (c .args .serial) (c .args .steps) (c .args .spent)) (c .fits .serial .fits, c .fits .steps .fits, c .fits .spent .fits);
+    }

@@ -9,5 +9,7 @@ use Rattle.record.proofs.writer.put_end.Needs as need
 
 pub returns : need.returns
 returns c =
-    record { stores = put-more (little 2 4 ++ little 2 37) (little 4 (c .args .records)) (c .args .out .now) _ _ 4 refl (c .put-header .ensures) (c .put-u32 .ensures)
-           ; reads-back = reads-back (ended (c .args .records)) (c .fits .records .fits) }
+    record {
+      stores = put-more (little 2 4 ++ little 2 37) (little 4 (c .args .records)) (c .args .out .now) _ _ 4 refl (c .put-header .ensures) (c .put-u32 .ensures);
+      reads-back = reads-back (ended (c .args .records)) (c .fits .records .fits);
+    }

@@ -9,5 +9,7 @@ use Rattle.record.proofs.writer.put_open.Needs as need
 
 pub returns : need.returns
 returns c =
-    record { stores = put-more (little 2 2 ++ little 2 2) (little 2 (c .args .horizon)) (c .args .out .now) _ _ 4 refl (c .put-header .ensures) (c .put-u16 .ensures)
-           ; reads-back = reads-back (opening (c .args .horizon)) (c .fits .horizon .fits) }
+    record {
+      stores = put-more (little 2 2 ++ little 2 2) (little 2 (c .args .horizon)) (c .args .out .now) _ _ 4 refl (c .put-header .ensures) (c .put-u16 .ensures);
+      reads-back = reads-back (opening (c .args .horizon)) (c .fits .horizon .fits);
+    }

@@ -9,5 +9,7 @@ use Rattle.record.proofs.writer.put_opened.Needs as need
 
 pub returns : need.returns
 returns c =
-    record { stores = c .put-epoch .ensures
-           ; reads-back = reads-back (opened (c .args .serial) (c .args .horizon) (c .args .held)) (c .fits .serial .fits, c .fits .horizon .fits, c .fits .held .fits) }
+    record {
+      stores = c .put-epoch .ensures;
+      reads-back = reads-back (opened (c .args .serial) (c .args .horizon) (c .args .held)) (c .fits .serial .fits, c .fits .horizon .fits, c .fits .held .fits);
+    }

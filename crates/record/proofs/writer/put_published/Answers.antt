@@ -35,5 +35,7 @@ returns c =
     let e1 = put-more (head ++ little 4 (c .args .serial)) (little 2 (c .args .step)) (c .args .out .now) _ _ 8 refl e0 (c .put-u16 .ensures) in
     let e2 = put-more (head ++ little 4 (c .args .serial) ++ little 2 (c .args .step)) (take (size - 0) bs) (c .args .out .now) _ _ 10 refl e1 (c .put-bytes .ensures) in
     let body = ap (λ (n : ℕ). take n (c .args .counts .now)) (sub-zero size) ∙ sym (tally-bytes bs all) in
-    record { stores = e2 ∙ same-frame 34 (6 + size) (length (bodyOf entry)) (fixed ++ take (size - 0) bs) (bodyOf entry) (c .args .out .now) (omega (arith, tally-size (c .args .counts .now))) (ap (λ (z : List ℕ). fixed ++ z) body)
-           ; reads-back = reads-back entry (c .fits .serial .fits, c .fits .step .fits, c .pre .some, c .pre .few, tally-fits bs all) }
+    record {
+      stores = e2 ∙ same-frame 34 (6 + size) (length (bodyOf entry)) (fixed ++ take (size - 0) bs) (bodyOf entry) (c .args .out .now) (omega (arith, tally-size (c .args .counts .now))) (ap (λ (z : List ℕ). fixed ++ z) body);
+      reads-back = reads-back entry (c .fits .serial .fits, c .fits .step .fits, c .pre .some, c .pre .few, tally-fits bs all);
+    }

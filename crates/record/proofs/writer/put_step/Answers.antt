@@ -27,5 +27,7 @@ returns c =
     let size = length (c .args .counts .now) / 2 * 2 in
     let e = put-more (little 2 size ++ little 2 3) (take (size - 0) bs) (c .args .out .now) _ _ 4 refl (c .put-header .ensures) (c .put-bytes .ensures) in
     let body = ap (λ (n : ℕ). take n (c .args .counts .now)) (sub-zero size) ∙ sym (row-bytes bs all) in
-    record { stores = e ∙ same-frame 3 size (length (bodyOf (stepping (rowIn bs)))) (take (size - 0) bs) (bodyOf (stepping (rowIn bs))) (c .args .out .now) (sym (row-size bs)) body
-           ; reads-back = reads-back (stepping (rowIn bs)) (c .pre .some, c .pre .few, row-fits bs all) }
+    record {
+      stores = e ∙ same-frame 3 size (length (bodyOf (stepping (rowIn bs)))) (take (size - 0) bs) (bodyOf (stepping (rowIn bs))) (c .args .out .now) (sym (row-size bs)) body;
+      reads-back = reads-back (stepping (rowIn bs)) (c .pre .some, c .pre .few, row-fits bs all);
+    }

@@ -20,7 +20,9 @@ returns c =
     let size = c .size-size .ensures in
     let room : length (bytesOf (entryOf (c .args .self .now))) ≤ length (c .args .out .now) = omega arith in
     let front : take (c .size-size .result) (c .store .last .out) ≡ bytesOf (entryOf (c .args .self .now)) =
-        ap (λ (n : ℕ). take n (c .store .last .out)) size ∙ (ap (λ (xs : List ℕ). take (length (bytesOf (entryOf (c .args .self .now)))) xs) (c .store .ensures .stores) ∙ front-accepted e out some few room) in
-    record { value = ap (λ (n : ℕ). Ok n) size ∙ sym (write-accepts e out some few room)
-           ; after = c .store .ensures .stores ∙ sym (output-accepted e out some few room)
-           ; reads-back = subst (λ (bs : List ℕ). ReadsBack bs (entryOf (c .args .self .now))) (sym front) (c .store .ensures .reads-back) }
+    ap (λ (n : ℕ). take n (c .store .last .out)) size ∙ (ap (λ (xs : List ℕ). take (length (bytesOf (entryOf (c .args .self .now)))) xs) (c .store .ensures .stores) ∙ front-accepted e out some few room) in
+    record {
+      value = ap (λ (n : ℕ). Ok n) size ∙ sym (write-accepts e out some few room);
+      after = c .store .ensures .stores ∙ sym (output-accepted e out some few room);
+      reads-back = subst (λ (bs : List ℕ). ReadsBack bs (entryOf (c .args .self .now))) (sym front) (c .store .ensures .reads-back);
+    }
