@@ -1,0 +1,3 @@
+pub mod Finishers
+pub mod Kinds
+pub mod Examples

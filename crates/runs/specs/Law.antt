@@ -1,0 +1,122 @@
+-- The law of paired runs.
+use Prim.Native.Nat.{ℕ, zero, suc, _+_, _-_, _*_, _≤_, _<_}
+use mathlib.Core.Bool.{Bool, false, cond}
+use mathlib.Core.List.{List, [], _∷_, _++_, map}
+use mathlib.Core.Logic.{_↔_}
+use mathlib.Core.Path.{_≡_}
+use lib.Dec.{eqb}
+use lib.IntN.{ℤ, pos, negsuc}
+use lib.ListN.{length, getD, take, drop}
+use mir.Syntax.{w32}
+use mir.Val.{SFits}
+use Rattle.std.specs.shelf.Lists.{All}
+use Rattle.plan.specs.Plans.{horizon, Falls, AgreeTo, breadth}
+use Rattle.finisher.specs.Finishers.{Says, Alike, Within}
+use Rattle.runs.specs.Model.{Setting, Station, Call, steps, reads, balances, Answer, stepped, published, balance, made}
+use Rattle.runs.specs.Runs.{answers, rowsTaken, epochRows, trueCount, Joint, first, second, unseen, shifts, movedBy, Agreed}
+
+-- what a station is made from
+pub record Parts : Type 0 where
+  pub setting : Setting
+  pub back : ℕ → ℕ
+  pub cells : List ℤ
+  pub says : Says
+
+-- a setting that is not refused, and a plan and a tape that keep their meanings
+pub record LawfulParts (p : Parts) : Type 0 where
+  pub some : 1 ≤ p .setting .classes
+  pub few : p .setting .classes ≤ 8
+  pub falls : Falls (p .back)
+  pub narrow : All (SFits w32) (p .cells)
+
+abbrev pub make : Parts → Station
+make p = made (p .setting) (p .back) (p .cells) (p .says)
+
+-- made alike
+pub record MadeAlike (p q : Parts) : Type 0 where
+  pub setting : p .setting ≡ q .setting
+  pub plan : AgreeTo horizon (p .back) (q .back)
+  pub finisher : Alike (p .says) (q .says)
+  pub tape : length (p .cells) ≡ length (q .cells)
+
+abbrev pub firsts : List Joint → List Call
+firsts js = map first js
+
+abbrev pub seconds : List Joint → List Call
+seconds js = map second js
+
+-- a station's answer to one call more, put after some calls
+abbrev pub answerTo : Parts → List Call → Call → Answer → Type 0
+answerTo p calls call a = answers (make p) (calls ++ call ∷ []) ≡ answers (make p) calls ++ a ∷ []
+
+-- two stations made alike, with two lists of calls that agree but for one row an epoch, and with tapes that differ in
+-- the cells of that row's class whose parts hold its step, by one against the difference, and in no others
+pub record Pair (p q : Parts) (js : List Joint) : Type 0 where
+  pub lawful-first : LawfulParts p
+  pub lawful-second : LawfulParts q
+  pub alike : MadeAlike p q
+  pub agreed : Agreed unseen js (answers (make p) (firsts js))
+  pub moved : q .cells ≡ movedBy (p .cells) (shifts (p .back) (p .setting .classes) unseen js (answers (make p) (firsts js)))
+
+-- the cells that a run has drawn
+abbrev pub drawn : Parts → List Call → ℕ
+drawn p calls = p .setting .classes * rowsTaken (answers (make p) calls)
+
+-- the cell at a position of the tape, as it was at the making
+abbrev pub cellAt : Parts → ℕ → ℤ
+cellAt p position = getD (p .cells) position (pos 0)
+
+abbrev pub sameCell : ℤ → ℤ → Bool
+sameCell (pos m) (pos n) = eqb m n
+sameCell (pos m) (negsuc n) = false
+sameCell (negsuc m) (pos n) = false
+sameCell (negsuc m) (negsuc n) = eqb m n
+
+-- how many of the first n cells differ
+abbrev pub differing : ℕ → List ℤ → List ℤ → ℕ
+differing zero one other = 0
+differing (suc n) (x ∷ one) (y ∷ other) = cond (sameCell x y) 0 1 + differing n one other
+differing (suc n) (x ∷ one) [] = 0
+differing (suc n) [] other = 0
+
+-- the cells drawn in the newest epoch
+abbrev pub epochCells : Parts → List Call → List ℤ
+epochCells p calls =
+    let rows = length (epochRows [] calls (answers (make p) calls)) in
+    take (p .setting .classes * rows) (drop (drawn p calls - p .setting .classes * rows) (p .cells))
+
+-- after an accepted step whose epoch has drawn only cells from -a to a, each class's published count lies within
+-- a times the breadth of its true count
+abbrev pub Accurate : Parts → Type 0
+Accurate p =
+    (calls : List Call) (row : List ℕ) (step a class : ℕ)
+    → answerTo p calls (steps row) (stepped step)
+    → All (λ cell. Within a cell 0) (epochCells p (calls ++ steps row ∷ []))
+    → class < p .setting .classes
+    → (count : ℤ) × answerTo p (calls ++ steps row ∷ []) (reads class) (published count)
+    × Within (a * breadth (p .back) step) count (trueCount class (epochRows [] (calls ++ steps row ∷ []) (answers (make p) (calls ++ steps row ∷ []))))
+
+-- every answer is the same in both
+abbrev pub SameAnswers : Type 0
+SameAnswers = (p q : Parts) (js : List Joint) → Pair p q js → answers (make q) (seconds js) ≡ answers (make p) (firsts js)
+
+-- after each call the moved cells drawn so far are at most the units spent and held, and these at most the grant
+abbrev pub WithinUnits : Type 0
+WithinUnits =
+    (p q : Parts) (js : List Joint) → Pair p q js → (n : ℕ)
+    → (spent : ℕ) × (held : ℕ) × answerTo p (take n (firsts js)) balances (balance (p .setting .grant) spent held)
+    × (differing (drawn p (take n (firsts js))) (p .cells) (q .cells) ≤ spent + held)
+    × (spent + held ≤ p .setting .grant)
+
+-- pairs alike in setting, plan, calls and tape length have the same cells moved
+abbrev pub SamePlaces : Type 0
+SamePlaces =
+    (p q p′ q′ : Parts) (js : List Joint) → Pair p q js → Pair p′ q′ js
+    → p .setting ≡ p′ .setting → AgreeTo horizon (p .back) (p′ .back) → length (p .cells) ≡ length (p′ .cells)
+    → (position : ℕ) → (cellAt p position ≡ cellAt q position) ↔ (cellAt p′ position ≡ cellAt q′ position)
+
+-- the law of every two runs
+pub record PairedRuns : Type 0 where
+  pub same-answers : SameAnswers
+  pub within-units : WithinUnits
+  pub same-places : SamePlaces

@@ -1,0 +1,4 @@
+pub mod Model
+pub mod Runs
+pub mod Law
+pub mod Examples
