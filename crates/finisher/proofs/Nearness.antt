@@ -48,9 +48,10 @@ answered says class release h = rw (lt-ltb class classLimit h)
 -- the same places below, and equal numbers held
 pub same-near : {says says′ : Says} {stands stands′ : Stands} {held held′ : List ℤ} → says ≡ says′ → Same stands stands′ → held ≡ held′ → Same (heldNear says stands held) (heldNear says′ stands′ held′)
 same-near {says} {says′} {stands} {stands′} {held} {held′} p q r calls class error count =
-    let e : getD (heldAfter says held calls) class (pos 0) ≡ getD (heldAfter says′ held′ calls) class (pos 0) = cc in
-    ( λ s. (q calls class error count .0 (s .0), subst (λ (z : ℤ). z ≤ℤ pos (count + error)) e (s .1))
-    , λ s. (q calls class error count .1 (s .0), subst (λ (z : ℤ). z ≤ℤ pos (count + error)) (sym e) (s .1)) )
+    let e : getD (heldAfter says held calls) class (pos 0) ≡ getD (heldAfter says′ held′ calls) class (pos 0) = cc in (
+      λ s. (q calls class error count .0 (s .0), subst (λ (z : ℤ). z ≤ℤ pos (count + error)) e (s .1)),
+      λ s. (q calls class error count .1 (s .0), subst (λ (z : ℤ). z ≤ℤ pos (count + error)) (sym e) (s .1)),
+    )
 
 -- What is held after one call more.
 
@@ -80,32 +81,35 @@ none-held class error = omega (arith, ints, zeros classLimit class)
 
 pub plain-keeps : Keeps plain everywhere
 plain-keeps =
-    record
-      { fresh = λ calls class error l c e. tt
-      ; near = λ calls class release error old new l c s u b e w. (w, tt)
-      ; others = λ calls class release other error count l c n. (λ s. s, λ s. s) }
+    record {
+      fresh = λ calls class error l c e. tt;
+      near = λ calls class release error old new l c s u b e w. (w, tt);
+      others = λ calls class release other error count l c n. (λ s. s, λ s. s);
+    }
 
 module _ (says : Says) (stands : Stands) (keeps : Keeps says stands) where
   pub floor-keeps : Keeps (floored says) stands
   floor-keeps =
-      record
-        { fresh = keeps .fresh
-        ; near = λ calls class release error old new l c s u b e w.
+      record {
+        fresh = keeps .fresh;
+        near = λ calls class release error old new l c s u b e w.
             let n = keeps .near calls class release error old new l c s u b e w in
-            (within-max error new (says calls class release) (pos 0) (n .0) (omega (arith, ints)), n .1)
-        ; others = keeps .others }
+            (within-max error new (says calls class release) (pos 0) (n .0) (omega (arith, ints)), n .1);
+        others = keeps .others;
+      }
 
   pub rising-keeps : (held : List ℤ) → Keeps (rising says held) (heldNear says stands held)
   rising-keeps held =
-      record
-        { fresh = λ calls class error l c e.
-            (keeps .fresh calls class error l c e, subst (λ (h : List ℤ). getD h class (pos 0) ≤ℤ pos (0 + error)) (sym (held-begun says held calls)) (none-held class error))
-        ; near = λ calls class release error old new l c s u b e w.
+      record {
+        fresh = λ calls class error l c e.
+            (keeps .fresh calls class error l c e, subst (λ (h : List ℤ). getD h class (pos 0) ≤ℤ pos (0 + error)) (sym (held-begun says held calls)) (none-held class error));
+        near = λ calls class release error old new l c s u b e w.
             let n = keeps .near calls class release error old new l c (s .0) u b e w in
             let top = within-max error new (says calls class release) (getD (heldAfter says held calls) class (pos 0)) (n .0) (omega (arith, ints, s .1)) in
             let low = set-below (heldAfter says held calls) class (new + error) (rising says held calls class release) (top .0) in
-            (top, (n .1, subst (λ (h : List ℤ). getD h class (pos 0) ≤ℤ pos (new + error)) (sym (held-finished says held calls class release)) low))
-        ; others = λ calls class release other error count l c n.
+            (top, (n .1, subst (λ (h : List ℤ). getD h class (pos 0) ≤ℤ pos (new + error)) (sym (held-finished says held calls class release)) low));
+        others = λ calls class release other error count l c n.
             let o = keeps .others calls class release other error count l c n in
             let kept = ap (λ (h : List ℤ). getD h other (pos 0)) (held-finished says held calls class release) ∙ getD-set-other (heldAfter says held calls) class other (rising says held calls class release) (pos 0) n in
-            (λ s. (o .0 (s .0), subst (λ (z : ℤ). z ≤ℤ pos (count + error)) (sym kept) (s .1)), λ s. (o .1 (s .0), subst (λ (z : ℤ). z ≤ℤ pos (count + error)) kept (s .1))) }
+            (λ s. (o .0 (s .0), subst (λ (z : ℤ). z ≤ℤ pos (count + error)) (sym kept) (s .1)), λ s. (o .1 (s .0), subst (λ (z : ℤ). z ≤ℤ pos (count + error)) kept (s .1)));
+      }

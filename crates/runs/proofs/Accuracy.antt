@@ -28,12 +28,12 @@ use Rattle.runs.proofs.Standing.{Stand, Quiet}
 use Rattle.runs.proofs.Track.{few-by, narrow-rows, rowCells, stand-open, stand-step}
 use Rattle.runs.proofs.Follow.{Carried, Keeping, keep, answers-push, station-push, answer-is}
 
-stepped-by : (s : Station) (row : List ℕ) (step : ℕ) (o : Option Told) → answerBy o s (steps row) ≡ stepped step → (o ≡ None) × (suc (s .steps) ≡ step)
+pub stepped-by : (s : Station) (row : List ℕ) (step : ℕ) (o : Option Told) → answerBy o s (steps row) ≡ stepped step → (o ≡ None) × (suc (s .steps) ≡ step)
 stepped-by s row step (Some told) e = let z : _≡_ {A = ℕ} 0 1 = cc in absurd (omega arith)
 stepped-by s row step None e = (refl, cc)
 
 -- a read of a class there is, after a step
-read-by : (s : Station) (class : ℕ) → class < s .setting .classes → (s .steps ≡ 0 → ⊥) → answer s (reads class) ≡ published (laneAt s class .published)
+pub read-by : (s : Station) (class : ℕ) → class < s .setting .classes → (s .steps ≡ 0 → ⊥) → answer s (reads class) ≡ published (laneAt s class .published)
 read-by s class h n =
     let a : leb (s .setting .classes) class ≡ false = lt-leb (s .setting .classes) class h in
     let b : eqb (s .steps) 0 ≡ false = ne-eqb (s .steps) 0 n in
@@ -57,11 +57,12 @@ module _ (p : Parts) (lawful : LawfulParts p) (stands : Stands) (keeps : Keeps (
 
   steady : Carried p Steady
   steady =
-      record
-        { at-start = never-open [] (make p) refl
-        ; at-open = λ s n rows l t epoch _. stand-open p lawful s n rows l t stands keeps epoch
-        ; at-step = λ s n rows l t row f h q _. stand-step p lawful s n rows l t row f h stands keeps (q (f .inside))
-        ; at-close = λ s l q. never-open l (afterClose s) refl }
+      record {
+        at-start = never-open [] (make p) refl;
+        at-open = λ s n rows l t epoch _. stand-open p lawful s n rows l t stands keeps epoch;
+        at-step = λ s n rows l t row f h q _. stand-step p lawful s n rows l t row f h stands keeps (q (f .inside));
+        at-close = λ s l q. never-open l (afterClose s) refl;
+      }
 
   abbrev Following : Station → ℕ → List (List ℕ) → Type 0
   Following = Keeping p lawful Steady steady
@@ -100,7 +101,8 @@ module _ (p : Parts) (lawful : LawfulParts p) (stands : Stands) (keeps : Keeps (
       let inside : isOpen (t .phase) ≡ true = ap (λ (x : Station). isOpen (x .phase)) is ∙ facts .inside in
       let few = few-by (s .back) (s .held) (s .steps) (s .phase) (facts .more) (before .sound .phase-sound) in
       let some : class < t .setting .classes = subst (λ (x : Setting). class < x .classes) (sym (f .track .setting)) h in
-      let near = near-class t _ _ a class f inside (omega (arith, at-step, by .1)) w some in
-      ( laneAt t class .published
-      , answers-push (make p) (calls ++ steps row ∷ []) (reads class) ∙ ap (λ (x : Answer). answers (make p) (calls ++ steps row ∷ []) ++ x ∷ []) (read-by t class some (λ z. omega (arith, at-step, by .1)))
-      , subst (λ (k : ℕ). Within (a * breadth (p .back) k) (laneAt t class .published) (trueCount class (epochRows [] (calls ++ steps row ∷ []) (answers (make p) (calls ++ steps row ∷ []))))) at-step near )
+      let near = near-class t _ _ a class f inside (omega (arith, at-step, by .1)) w some in (
+        laneAt t class .published,
+        answers-push (make p) (calls ++ steps row ∷ []) (reads class) ∙ ap (λ (x : Answer). answers (make p) (calls ++ steps row ∷ []) ++ x ∷ []) (read-by t class some (λ z. omega (arith, at-step, by .1))),
+        subst (λ (k : ℕ). Within (a * breadth (p .back) k) (laneAt t class .published) (trueCount class (epochRows [] (calls ++ steps row ∷ []) (answers (make p) (calls ++ steps row ∷ []))))) at-step near,
+      )

@@ -52,11 +52,12 @@ module _ (back : ℕ → ℕ) (t : ℕ) (falls : back (suc t) < suc t) where
   carries-same None h class = record { counted = refl; older = λ _ _. refl; newer = refl; level = refl }
   carries-same (Some c) (one, le) class =
       let b = le-leb (c .step) (suc t) (omega arith) in
-      record
-        { counted = plus-zero (countShift (Some c) class)
-        ; older = λ _ _. refl
-        ; newer = newer-by (eqb class (c .class)) (leb (c .step) (back (suc t))) (leb (c .step) (suc t)) (c .by) (holds back (suc t) (c .step)) b (held-or-not back (suc t) (c .step) (omega arith))
-        ; level = level-by (eqb class (c .class)) (leb (c .step) (suc t)) (c .by) b }
+      record {
+        counted = plus-zero (countShift (Some c) class);
+        older = λ _ _. refl;
+        newer = newer-by (eqb class (c .class)) (leb (c .step) (back (suc t))) (leb (c .step) (suc t)) (c .by) (holds back (suc t) (c .step)) b (held-or-not back (suc t) (c .step) (omega arith));
+        level = level-by (eqb class (c .class)) (leb (c .step) (suc t)) (c .by) b;
+      }
 
   none-and : (e b : Bool) (by : ℤ) → b ≡ false → cond (e && b) by (pos 0) ≡ pos 0
   none-and false b by h = refl
@@ -65,11 +66,12 @@ module _ (back : ℕ → ℕ) (t : ℕ) (falls : back (suc t) < suc t) where
   pub carries-apart : (j : ℕ) (by : ℤ) (class : ℕ) → Carries None (Some (record { step = suc t; class = j; by = by })) (λ c. cond (eqb c j) by (pos 0)) (shiftOf back (Some (record { step = suc t; class = j; by = by })) (suc t)) t (back (suc t)) class
   carries-apart j by class =
       let b = le-leb (suc t) (suc t) (omega arith) in
-      record
-        { counted = omega (arith, ints)
-        ; older = λ i h. none-and (eqb class j) (leb (suc t) i) by (lt-leb (suc t) i (omega arith))
-        ; newer = newer-by (eqb class j) (leb (suc t) (back (suc t))) (leb (suc t) (suc t)) by (holds back (suc t) (suc t)) b (held-or-not back (suc t) (suc t) (omega arith))
-        ; level = level-by (eqb class j) (leb (suc t) (suc t)) by b }
+      record {
+        counted = omega (arith, ints);
+        older = λ i h. none-and (eqb class j) (leb (suc t) i) by (lt-leb (suc t) i (omega arith));
+        newer = newer-by (eqb class j) (leb (suc t) (back (suc t))) (leb (suc t) (suc t)) by (holds back (suc t) (suc t)) b (held-or-not back (suc t) (suc t) (omega arith));
+        level = level-by (eqb class j) (leb (suc t) (suc t)) by b;
+      }
 
 -- Rows
 

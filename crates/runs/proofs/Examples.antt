@@ -26,10 +26,11 @@ lawful-twice cells h = record { some = lit≤ tt; few = lit≤ tt; falls = dyadi
 pub worked-pair : WorkedPair
 unfolding dyadic powerIn depth greatest holding total holds
 worked-pair =
-    record
-      { lawful-first = lawful-twice _ (sfits-lit tt, (sfits-lit tt, (sfits-lit tt, (sfits-lit tt, (sfits-lit tt, tt)))))
-      ; lawful-second = lawful-twice _ (sfits-lit tt, (sfits-lit tt, (sfits-lit tt, (sfits-lit tt, (sfits-lit tt, tt)))))
-      ; alike = record { setting = refl; plan = λ t a b. refl; finisher = λ calls class release l f. refl; tape = refl }
-      ; agreed =
-          (tt, ((refl, refl, lit< tt, lit≤ tt, lit≤ tt, λ _. lit≤ tt), (tt, (tt, (tt, (tt, (tt, ((refl, refl, lit< tt, lit≤ tt, lit≤ tt, λ _. lit≤ tt), (tt, (tt, tt))))))))))
-      ; moved = refl }
+    record {
+      lawful-first = lawful-twice _ (sfits-lit tt, (sfits-lit tt, (sfits-lit tt, (sfits-lit tt, (sfits-lit tt, tt)))));
+      lawful-second = lawful-twice _ (sfits-lit tt, (sfits-lit tt, (sfits-lit tt, (sfits-lit tt, (sfits-lit tt, tt)))));
+      alike = record { setting = refl; plan = λ t a b. refl; finisher = λ calls class release l f. refl; tape = refl };
+      agreed =
+          (tt, ((refl, refl, lit< tt, lit≤ tt, lit≤ tt, λ _. lit≤ tt), (tt, (tt, (tt, (tt, (tt, ((refl, refl, lit< tt, lit≤ tt, lit≤ tt, λ _. lit≤ tt), (tt, (tt, tt))))))))));
+      moved = refl;
+    }

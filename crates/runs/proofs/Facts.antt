@@ -53,11 +53,12 @@ pub open-facts : (s : Station) (t : ℕ) → refusal s (opens t) ≡ None → Op
 open-facts s t h =
     let n = none-holds (checks s (opens t)) h in
     let r = not-false (leb 1 t && leb t horizon) (n .1 .0) in
-    record
-      { idle = n .0
-      ; some = leb-true 1 t (and-left (leb 1 t) (leb t horizon) r)
-      ; few = leb-true t horizon (and-right (leb 1 t) (leb t horizon) r)
-      ; room = ltb-false (free s) (depthAsked (s .back) t) (n .1 .1 .1 .0) }
+    record {
+      idle = n .0;
+      some = leb-true 1 t (and-left (leb 1 t) (leb t horizon) r);
+      few = leb-true t horizon (and-right (leb 1 t) (leb t horizon) r);
+      room = ltb-false (free s) (depthAsked (s .back) t) (n .1 .1 .1 .0);
+    }
 
 pub record Steps (s : Station) (row : List ℕ) : Type 0 where
   pub inside : isOpen (s .phase) ≡ true
@@ -79,12 +80,13 @@ none-over (x ∷ row) h =
 pub step-facts : (s : Station) (row : List ℕ) → refusal s (steps row) ≡ None → Steps s row
 step-facts s row h =
     let n = none-holds (checks s (steps row)) h in
-    record
-      { inside = not-false (isOpen (s .phase)) (n .0)
-      ; long = eqb-true (length row) (s .setting .classes) (not-false (eqb (length row) (s .setting .classes)) (n .1 .0))
-      ; small = none-over row (ltb-false (firstOver row) (length row) (n .1 .1 .0))
-      ; more = leb-false (epochOf (s .phase)) (s .steps) (n .1 .1 .1 .0)
-      ; enough = ltb-false (length (s .cells)) (s .setting .classes) (n .1 .1 .1 .1 .0) }
+    record {
+      inside = not-false (isOpen (s .phase)) (n .0);
+      long = eqb-true (length row) (s .setting .classes) (not-false (eqb (length row) (s .setting .classes)) (n .1 .0));
+      small = none-over row (ltb-false (firstOver row) (length row) (n .1 .1 .0));
+      more = leb-false (epochOf (s .phase)) (s .steps) (n .1 .1 .1 .0);
+      enough = ltb-false (length (s .cells)) (s .setting .classes) (n .1 .1 .1 .1 .0);
+    }
 
 pub close-facts : (s : Station) (number serial : ℕ) → refusal s (closes number serial) ≡ None → isOpen (s .phase) ≡ true
 close-facts s number serial h =

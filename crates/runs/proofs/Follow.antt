@@ -63,24 +63,29 @@ module _ (p : Parts) (lawful : LawfulParts p) (Q : List finisher.Call → Statio
   keep-by s n rows call (Some told) e f = subst (λ (k : ℕ). Keeping s k rows) (omega arith) f
   keep-by s n rows (opens t) None e f =
       subst (λ (k : ℕ). Keeping (afterOpen s t) k []) (omega arith)
-      (record
-        { calls = f .calls ++ finisher.begins ∷ []
-        ; track = track-open p lawful s n rows (f .calls) (f .track) t
-        ; sound = sound-open s t (open-facts s t e) (f .sound)
-        ; fact = carried .at-open s n rows (f .calls) (f .track) t })
+      (record {
+        calls = f .calls ++ finisher.begins ∷ [];
+        track = track-open p lawful s n rows (f .calls) (f .track) t;
+        sound = sound-open s t (open-facts s t e) (f .sound);
+        fact = carried .at-open s n rows (f .calls) (f .track) t;
+      })
   keep-by s n rows (steps row) None e f =
       let g = step-facts s row e in
       subst (λ (k : ℕ). Keeping (afterRow s row) k (rows ++ row ∷ [])) (omega arith)
-      (record
-        { calls = f .calls ++ finishesOf 0 (map release (advanced s row))
-        ; track = track-step p lawful s n rows (f .calls) (f .track) row g (f .sound)
-        ; sound = sound-step s row g (f .sound)
-        ; fact = carried .at-step s n rows (f .calls) (f .track) row g (f .sound) (f .fact) })
+      (record {
+        calls = f .calls ++ finishesOf 0 (map release (advanced s row));
+        track = track-step p lawful s n rows (f .calls) (f .track) row g (f .sound);
+        sound = sound-step s row g (f .sound);
+        fact = carried .at-step s n rows (f .calls) (f .track) row g (f .sound) (f .fact);
+      })
   keep-by s n rows (closes number serial) None e f =
       subst (λ (k : ℕ). Keeping (afterClose s) k rows) (omega arith)
-      (record
-        { calls = f .calls; track = track-close p lawful s n rows (f .calls) (f .track); sound = sound-close s (f .sound)
-        ; fact = carried .at-close s (f .calls) (f .fact) })
+      (record {
+        calls = f .calls;
+        track = track-close p lawful s n rows (f .calls) (f .track);
+        sound = sound-close s (f .sound);
+        fact = carried .at-close s (f .calls) (f .fact);
+      })
   keep-by s n rows (reads class) None e f = subst (λ (k : ℕ). Keeping s k rows) (omega arith) f
   keep-by s n rows balances None e f = subst (λ (k : ℕ). Keeping s k rows) (omega arith) f
 

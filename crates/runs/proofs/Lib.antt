@@ -16,3 +16,4 @@ pub mod Within
 pub mod Places
 pub mod Law
 pub mod Examples
+pub mod Published

@@ -77,13 +77,17 @@ module _ (s t : Station) (v : Sight) (l : Linked s t v) (h : Sound s) (falls : F
 
   pub row-linked : (used : Bool) → (used ≡ false → new ≡ None) → Seen new (suc (s .steps)) → Linked (afterRow s row) (afterRow t row′) (record { inside = v .inside; used = used; change = new })
   row-linked used unused seen =
-      record
-        { setting = l .setting; plan = l .plan
-        ; says = subst (λ (zs : List ℤ). Alike (saysAfter (s .says) 0 (map release (advanced s row))) (saysAfter (t .says) 0 zs)) same-releases (finished .1)
-        ; tape = length-drop (s .setting .classes) (s .cells) ∙ (let a = l .tape in let b = second-classes in omega arith ∙ sym (length-drop (t .setting .classes) (t .cells)))
-        ; spent = l .spent; held = l .held; serial = l .serial
-        ; taken = ap suc (l .taken)
-        ; phase = l .phase
-        ; lanes = subst (λ (zs : List ℤ). Paired (LaneLinked new) 0 (publishAll (advanced s row) (answersTo (s .says) 0 (map release (advanced s row)))) (publishAll (advanced t row′) zs)) same-answers (publish-linked new 0 (advanced s row) (advanced t row′) (answersTo (s .says) 0 (map release (advanced s row))) advanced-linked)
-        ; seen = seen
-        ; unused = unused }
+      record {
+        setting = l .setting;
+        plan = l .plan;
+        says = subst (λ (zs : List ℤ). Alike (saysAfter (s .says) 0 (map release (advanced s row))) (saysAfter (t .says) 0 zs)) same-releases (finished .1);
+        tape = length-drop (s .setting .classes) (s .cells) ∙ (let a = l .tape in let b = second-classes in omega arith ∙ sym (length-drop (t .setting .classes) (t .cells)));
+        spent = l .spent;
+        held = l .held;
+        serial = l .serial;
+        taken = ap suc (l .taken);
+        phase = l .phase;
+        lanes = subst (λ (zs : List ℤ). Paired (LaneLinked new) 0 (publishAll (advanced s row) (answersTo (s .says) 0 (map release (advanced s row)))) (publishAll (advanced t row′) zs)) same-answers (publish-linked new 0 (advanced s row) (advanced t row′) (answersTo (s .says) 0 (map release (advanced s row))) advanced-linked);
+        seen = seen;
+        unused = unused;
+      }

@@ -56,9 +56,16 @@ pub record Level (s t : Station) : Type 0 where
 
 level-of : (s t : Station) (v : Sight) → Linked s t v → Level s t
 level-of s t v l =
-    record
-      { setting = l .setting; plan = l .plan; tape = l .tape; spent = l .spent; held = l .held; serial = l .serial
-      ; taken = l .taken; phase = l .phase }
+    record {
+      setting = l .setting;
+      plan = l .plan;
+      tape = l .tape;
+      spent = l .spent;
+      held = l .held;
+      serial = l .serial;
+      taken = l .taken;
+      phase = l .phase;
+    }
 
 -- Plans that agree answer alike.
 

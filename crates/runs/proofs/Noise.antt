@@ -47,10 +47,10 @@ module _ (a : ℕ) (back : ℕ → ℕ) (falls : Falls back) where
       ⊎-elim
       (λ (le : i ≤ t). subst (λ (z : ℤ). Within (a * length (cover back i)) z 0) (sym (noise-old noise _ i (omega arith))) (h i (omega arith)))
       (λ (gt : t < i).
-        let e : i ≡ suc t = omega arith in
-        let c : length (cover back (suc t)) ≡ suc (length (cover back (back (suc t)))) = ap length (cover-suc back horizon falls t few) in
-        let m = mul-suc a (length (cover back (back (suc t)))) in
-        let old = subst (λ (j : ℕ). Within (a * length (cover back (back (suc t)))) (noiseAt noise j) 0) (sym b) (h (back (suc t)) (omega arith)) in
-        let sum = within-sum a (a * length (cover back (back (suc t)))) (a * length (cover back (suc t))) cell _ (omega (arith, ap (λ (j : ℕ). a * j) c)) w old in
-        subst (λ (j : ℕ). Within (a * length (cover back j)) (noiseAt (noise ++ (cell +ℤ noiseAt noise (backAsked back (suc t))) ∷ []) j) 0) (sym e) (subst (λ (z : ℤ). Within (a * length (cover back (suc t))) z 0) (sym (noise-new noise _ t l)) sum))
+      let e : i ≡ suc t = omega arith in
+      let c : length (cover back (suc t)) ≡ suc (length (cover back (back (suc t)))) = ap length (cover-suc back horizon falls t few) in
+      let m = mul-suc a (length (cover back (back (suc t)))) in
+      let old = subst (λ (j : ℕ). Within (a * length (cover back (back (suc t)))) (noiseAt noise j) 0) (sym b) (h (back (suc t)) (omega arith)) in
+      let sum = within-sum a (a * length (cover back (back (suc t)))) (a * length (cover back (suc t))) cell _ (omega (arith, ap (λ (j : ℕ). a * j) c)) w old in
+      subst (λ (j : ℕ). Within (a * length (cover back j)) (noiseAt (noise ++ (cell +ℤ noiseAt noise (backAsked back (suc t))) ∷ []) j) 0) (sym e) (subst (λ (z : ℤ). Within (a * length (cover back (suc t))) z 0) (sym (noise-new noise _ t l)) sum))
       (le-or-gt i t)

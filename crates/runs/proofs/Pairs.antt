@@ -50,9 +50,10 @@ pub paired-from : {X : Type 0} (P : ℕ → X → X → Type 0) (d : X) (class :
 paired-from P d class [] [] h f = tt
 paired-from P d class (x ∷ xs) [] h f = absurd (omega arith)
 paired-from P d class [] (y ∷ ys) h f = absurd (omega arith)
-paired-from P d class (x ∷ xs) (y ∷ ys) h f =
-    ( subst (λ (k : ℕ). P k x y) (omega arith) (f 0 (omega arith))
-    , paired-from P d (suc class) xs ys (omega arith) (λ i k. subst (λ (m : ℕ). P m (getD xs i d) (getD ys i d)) (omega arith) (f (suc i) (omega arith))) )
+paired-from P d class (x ∷ xs) (y ∷ ys) h f = (
+  subst (λ (k : ℕ). P k x y) (omega arith) (f 0 (omega arith)),
+  paired-from P d (suc class) xs ys (omega arith) (λ i k. subst (λ (m : ℕ). P m (getD xs i d) (getD ys i d)) (omega arith) (f (suc i) (omega arith))),
+)
 
 pub paired-at : {X : Type 0} (P : ℕ → X → X → Type 0) (d : X) (class : ℕ) (xs ys : List X) (i : ℕ) → i < length xs → Paired P class xs ys → P (class + i) (getD xs i d) (getD ys i d)
 paired-at P d class [] ys i h q = absurd (omega arith)
@@ -100,19 +101,20 @@ module _ (old new : Option Change) (more shift : ℕ → ℤ) (t k : ℕ) (short
       let old-k = l .noise k (omega arith) in
       let new-k = carries .older k short in
       let sum = carries .newer in
-      record
-        { published = l .published
-        ; long = length-push (a .noise) m ∙ (ap (λ (i : ℕ). i + 1) (l .long) ∙ sym (length-push (b .noise) n))
-        ; count = let e = l .count in let f = carries .counted in omega (arith, ints)
-        ; noise = λ i h.
+      record {
+        published = l .published;
+        long = length-push (a .noise) m ∙ (ap (λ (i : ℕ). i + 1) (l .long) ∙ sym (length-push (b .noise) n));
+        count = let e = l .count in let f = carries .counted in omega (arith, ints);
+        noise = λ i h.
             ⊎-elim
             (λ (le : i ≤ t). noise-old (b .noise) n i (let e = l .long in omega arith) ∙ (l .noise i (omega arith) ∙ (ap (λ (z : ℤ). noiseAt (a .noise) i -ℤ z) (sym (carries .older i le)) ∙ ap (λ (z : ℤ). z -ℤ noiseShift new class i) (sym (noise-old (a .noise) m i (omega arith))))))
             (λ (gt : t < i).
-              let e : i ≡ suc t = omega arith in
-              let newest : noiseAt (b .noise ++ n ∷ []) (suc t) ≡ noiseAt (a .noise ++ m ∷ []) (suc t) -ℤ noiseShift new class (suc t) =
-                  noise-new (b .noise) n t (sym (l .long) ∙ long) ∙ (omega (arith, ints) ∙ ap (λ (z : ℤ). z -ℤ noiseShift new class (suc t)) (sym (noise-new (a .noise) m t long))) in
-              subst (λ (j : ℕ). noiseAt (b .noise ++ n ∷ []) j ≡ noiseAt (a .noise ++ m ∷ []) j -ℤ noiseShift new class j) (sym e) newest)
-            (le-or-gt i t) }
+            let e : i ≡ suc t = omega arith in
+            let newest : noiseAt (b .noise ++ n ∷ []) (suc t) ≡ noiseAt (a .noise ++ m ∷ []) (suc t) -ℤ noiseShift new class (suc t) =
+            noise-new (b .noise) n t (sym (l .long) ∙ long) ∙ (omega (arith, ints) ∙ ap (λ (z : ℤ). z -ℤ noiseShift new class (suc t)) (sym (noise-new (a .noise) m t long))) in
+            subst (λ (j : ℕ). noiseAt (b .noise ++ n ∷ []) j ≡ noiseAt (a .noise ++ m ∷ []) j -ℤ noiseShift new class j) (sym e) newest)
+            (le-or-gt i t);
+      }
 
   pub lanes-step : (class : ℕ) (as′ bs : List Lane) (row row′ : List ℕ) (cells cells′ : List ℤ) → ((c : ℕ) → Carries old new more shift t k c) → AllFrom (λ _ lane. length (lane .noise) ≡ t) class as′ → Paired (LaneLinked old) class as′ bs → Paired (λ c x y. pos y ≡ pos x +ℤ more c) class row row′ → Paired (λ c x y. y ≡ x -ℤ shift c) class cells cells′ → Paired (LaneLinked new) class (advanceAll k as′ row cells) (advanceAll k bs row′ cells′)
   lanes-step class [] [] row row′ cells cells′ f h l r q = tt
@@ -149,9 +151,10 @@ publish-linked change class [] [] zs l = tt
 publish-linked change class (a ∷ as′) [] zs l = absurd l
 publish-linked change class [] (b ∷ bs) zs l = absurd l
 publish-linked change class (a ∷ as′) (b ∷ bs) [] l = tt
-publish-linked change class (a ∷ as′) (b ∷ bs) (z ∷ zs) (l, ls) =
-    ( record { published = refl; long = l .long; count = l .count; noise = l .noise }
-    , publish-linked change (suc class) as′ bs zs ls )
+publish-linked change class (a ∷ as′) (b ∷ bs) (z ∷ zs) (l, ls) = (
+  record { published = refl; long = l .long; count = l .count; noise = l .noise },
+  publish-linked change (suc class) as′ bs zs ls,
+)
 
 -- Finishers alike in meaning
 

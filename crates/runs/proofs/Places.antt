@@ -109,25 +109,42 @@ module _ (s t : Station) (l : Level s t) where
   level-by call (Some told) = l
   level-by (opens epoch) None =
       let d = depth-alike (s .back) (t .back) (l .plan) epoch in
-      record
-        { setting = l .setting; plan = l .plan; tape = l .tape; spent = l .spent
-        ; held = let a = l .held in cc
-        ; serial = ap suc (l .serial); taken = refl; phase = cc }
+      record {
+        setting = l .setting;
+        plan = l .plan;
+        tape = l .tape;
+        spent = l .spent;
+        held = let a = l .held in cc;
+        serial = ap suc (l .serial);
+        taken = refl;
+        phase = cc;
+      }
   level-by (steps row) None =
       let c = ap (λ (x : Setting). x .classes) (l .setting) in
       let a = l .tape in
-      record
-        { setting = l .setting; plan = l .plan
-        ; tape = length-drop (s .setting .classes) (s .cells) ∙ (omega arith ∙ sym (length-drop (t .setting .classes) (t .cells)))
-        ; spent = l .spent; held = l .held; serial = l .serial; taken = ap suc (l .taken); phase = l .phase }
+      record {
+        setting = l .setting;
+        plan = l .plan;
+        tape = length-drop (s .setting .classes) (s .cells) ∙ (omega arith ∙ sym (length-drop (t .setting .classes) (t .cells)));
+        spent = l .spent;
+        held = l .held;
+        serial = l .serial;
+        taken = ap suc (l .taken);
+        phase = l .phase;
+      }
   level-by (closes number serial) None =
       let a = l .taken in let b = l .phase in
       let d : depthAsked (s .back) (s .steps) ≡ depthAsked (t .back) (t .steps) = depth-alike (s .back) (t .back) (l .plan) (s .steps) ∙ ap (depthAsked (t .back)) a in
-      record
-        { setting = l .setting; plan = l .plan; tape = l .tape
-        ; spent = let c = l .spent in cc
-        ; held = let c = l .held in cc
-        ; serial = l .serial; taken = l .taken; phase = refl }
+      record {
+        setting = l .setting;
+        plan = l .plan;
+        tape = l .tape;
+        spent = let c = l .spent in cc;
+        held = let c = l .held in cc;
+        serial = l .serial;
+        taken = l .taken;
+        phase = refl;
+      }
   level-by (reads class) None = l
   level-by balances None = l
 
@@ -143,8 +160,8 @@ module _ (p q : ℕ → ℕ) (agree : AgreeTo horizon p q) (k : ℕ) where
       let e = same-shape s t l (first j) in
       let v-same : sightAfter v j a ≡ sightAfter v j b = sight-shape v j a ∙ (ap (sightAfter v j) (sym e) ∙ sym (sight-shape v j b)) in
       let here : shiftsAt p k (sightAfter v j a .change) a ≡ shiftsAt q k (sightAfter v j b .change) b =
-          shifts-agree p q agree k (sightAfter v j a .change) a (range-by s (first j) (refusal s (first j)) refl h)
-          ∙ (shifts-shape q k (sightAfter v j a .change) a ∙ (ap (shiftsAt q k (sightAfter v j a .change)) (sym e) ∙ (sym (shifts-shape q k (sightAfter v j a .change) b) ∙ ap (λ (w : Sight). shiftsAt q k (w .change) b) v-same))) in
+      shifts-agree p q agree k (sightAfter v j a .change) a (range-by s (first j) (refusal s (first j)) refl h)
+      ∙ (shifts-shape q k (sightAfter v j a .change) a ∙ (ap (shiftsAt q k (sightAfter v j a .change)) (sym e) ∙ (sym (shifts-shape q k (sightAfter v j a .change) b) ∙ ap (λ (w : Sight). shiftsAt q k (w .change) b) v-same))) in
       let rest = shifts-level js (next s (first j)) (next t (first j)) (sightAfter v j a) (level-next s t l (first j)) (sound-next s (first j) h) in
       let more = rest ∙ ap (λ (w : Sight). shifts q k w js (answers (next t (first j)) (firsts js))) v-same in
       ap (λ (zs : List ℤ). zs ++ shifts p k (sightAfter v j a) js (answers (next s (first j)) (firsts js))) here ∙ ap (λ (zs : List ℤ). shiftsAt q k (sightAfter v j b .change) b ++ zs) more
@@ -173,18 +190,19 @@ place-one xs ys zs i n h =
     ⊎-elim
     (λ (past : length ys ≤ i). getD-past ys i (pos 0) past ∙ sym (getD-past (movedBy ys zs) i (pos 0) (let m = moved-length ys zs in omega arith)))
     (λ (here : i < length ys).
-      let z = zero-from (getD xs i (pos 0)) (getD zs i (pos 0)) (h ∙ moved-at xs zs i (omega arith)) in
-      less-zero (getD ys i (pos 0)) ∙ (ap (λ (y : ℤ). getD ys i (pos 0) -ℤ y) (sym z) ∙ sym (moved-at ys zs i here)))
+    let z = zero-from (getD xs i (pos 0)) (getD zs i (pos 0)) (h ∙ moved-at xs zs i (omega arith)) in
+    less-zero (getD ys i (pos 0)) ∙ (ap (λ (y : ℤ). getD ys i (pos 0) -ℤ y) (sym z) ∙ sym (moved-at ys zs i here)))
     (le-or-gt (length ys) i)
 
 pub same-places : (p q p′ q′ : Parts) (js : List Joint) → Pair p q js → Pair p′ q′ js → p .setting ≡ p′ .setting → AgreeTo horizon (p .back) (p′ .back) → length (p .cells) ≡ length (p′ .cells) → (position : ℕ) → (cellAt p position ≡ cellAt q position) ↔ (cellAt p′ position ≡ cellAt q′ position)
 same-places p q p′ q′ js r r′ setting plan tape i =
     let level : Level (make p) (make p′) =
-        record { setting = setting; plan = plan; tape = tape; spent = refl; held = refl; serial = refl; taken = refl; phase = refl } in
+    record { setting = setting; plan = plan; tape = tape; spent = refl; held = refl; serial = refl; taken = refl; phase = refl } in
     let k = p .setting .classes in
     let zs = shifts (p .back) k unseen js (answers (make p) (firsts js)) in
     let e = shifts-level (p .back) (p′ .back) plan k js (make p) (make p′) unseen level (sound-made (p .setting) (p .back) (p .cells) (p .says)) in
     let first′ : q′ .cells ≡ movedBy (p′ .cells) zs =
-        r′ .moved ∙ ap (movedBy (p′ .cells)) (ap (λ (x : Setting). shifts (p′ .back) (x .classes) unseen js (answers (make p′) (firsts js))) (sym setting) ∙ sym e) in
-    ( λ h. place-one (p .cells) (p′ .cells) zs i tape (h ∙ ap (λ (xs : List ℤ). getD xs i (pos 0)) (r .moved)) ∙ ap (λ (xs : List ℤ). getD xs i (pos 0)) (sym first′)
-    , λ h. place-one (p′ .cells) (p .cells) zs i (sym tape) (h ∙ ap (λ (xs : List ℤ). getD xs i (pos 0)) first′) ∙ ap (λ (xs : List ℤ). getD xs i (pos 0)) (sym (r .moved)) )
+    r′ .moved ∙ ap (movedBy (p′ .cells)) (ap (λ (x : Setting). shifts (p′ .back) (x .classes) unseen js (answers (make p′) (firsts js))) (sym setting) ∙ sym e) in (
+      λ h. place-one (p .cells) (p′ .cells) zs i tape (h ∙ ap (λ (xs : List ℤ). getD xs i (pos 0)) (r .moved)) ∙ ap (λ (xs : List ℤ). getD xs i (pos 0)) (sym first′),
+      λ h. place-one (p′ .cells) (p .cells) zs i (sym tape) (h ∙ ap (λ (xs : List ℤ). getD xs i (pos 0)) first′) ∙ ap (λ (xs : List ℤ). getD xs i (pos 0)) (sym (r .moved)),
+    )

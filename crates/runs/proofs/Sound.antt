@@ -34,11 +34,12 @@ pub record Sound (s : Station) : Type 0 where
 
 pub sound-made : (setting : Setting) (back : ℕ → ℕ) (cells : List ℤ) (says : Says) → Sound (made setting back cells says)
 sound-made setting back cells says =
-    record
-      { lanes-long = length-replicate (setting .classes) emptyLane
-      ; noise-long = all-from-new (λ _ lane. length (lane .noise) ≡ 0) (λ _. refl) 0 (setting .classes)
-      ; budget = omega arith
-      ; phase-sound = refl }
+    record {
+      lanes-long = length-replicate (setting .classes) emptyLane;
+      noise-long = all-from-new (λ _ lane. length (lane .noise) ≡ 0) (λ _. refl) 0 (setting .classes);
+      budget = omega arith;
+      phase-sound = refl;
+    }
 
 idle-by : (back : ℕ → ℕ) (held taken : ℕ) (phase : Phase) → isOpen phase ≡ false → PhaseSound back held taken phase → held ≡ 0
 idle-by back held taken idle h p = p
@@ -48,11 +49,12 @@ pub sound-open : (s : Station) (t : ℕ) → Opens s t → Sound s → Sound (af
 sound-open s t o h =
     let none = idle-by (s .back) (s .held) (s .steps) (s .phase) (o .idle) (h .phase-sound) in
     let room = o .room in
-    record
-      { lanes-long = length-replicate (s .setting .classes) emptyLane
-      ; noise-long = all-from-new (λ _ lane. length (lane .noise) ≡ 0) (λ _. refl) 0 (s .setting .classes)
-      ; budget = let b = h .budget in omega arith
-      ; phase-sound = (refl, omega arith, o .some, o .few, omega arith) }
+    record {
+      lanes-long = length-replicate (s .setting .classes) emptyLane;
+      noise-long = all-from-new (λ _ lane. length (lane .noise) ≡ 0) (λ _. refl) 0 (s .setting .classes);
+      budget = let b = h .budget in omega arith;
+      phase-sound = (refl, omega arith, o .some, o .few, omega arith);
+    }
 
 step-by : (back : ℕ → ℕ) (held taken : ℕ) (phase : Phase) → isOpen phase ≡ true → taken < epochOf phase → PhaseSound back held taken phase → PhaseSound back held (suc taken) phase
 step-by back held taken idle h l p = absurd (omega arith)
@@ -70,11 +72,12 @@ answers-long s row = length-answers (s .says) 0 (map release (advanced s row)) �
 pub sound-step : (s : Station) (row : List ℕ) → Steps s row → Sound s → Sound (afterRow s row)
 sound-step s row f h =
     let longer = advance-all (λ _ lane. length (lane .noise) ≡ s .steps) (λ _ lane. length (lane .noise) ≡ suc (s .steps)) (λ _ x. x ≤ 1000) (λ _. Unit {0}) _ (λ class lane x cell n _ _. length-push (lane .noise) _ ∙ omega arith) 0 (s .lanes) row (take (s .setting .classes) (s .cells)) (h .noise-long) (all-counts (λ x. x ≤ 1000) 0 row (f .small)) (every-cell (take (s .setting .classes) (s .cells))) in
-    record
-      { lanes-long = length-publish (advanced s row) _ (answers-long s row) ∙ (advanced-long s row f h ∙ h .lanes-long)
-      ; noise-long = publish-all (λ _ lane. length (lane .noise) ≡ suc (s .steps)) (λ _ lane. length (lane .noise) ≡ suc (s .steps)) (λ _ _ _ n. n) 0 (advanced s row) _ longer
-      ; budget = h .budget
-      ; phase-sound = step-by (s .back) (s .held) (s .steps) (s .phase) (f .inside) (f .more) (h .phase-sound) }
+    record {
+      lanes-long = length-publish (advanced s row) _ (answers-long s row) ∙ (advanced-long s row f h ∙ h .lanes-long);
+      noise-long = publish-all (λ _ lane. length (lane .noise) ≡ suc (s .steps)) (λ _ lane. length (lane .noise) ≡ suc (s .steps)) (λ _ _ _ n. n) 0 (advanced s row) _ longer;
+      budget = h .budget;
+      phase-sound = step-by (s .back) (s .held) (s .steps) (s .phase) (f .inside) (f .more) (h .phase-sound);
+    }
 
 close-by : (back : ℕ → ℕ) (spent held taken grant : ℕ) (phase : Phase) → spent + held ≤ grant → PhaseSound back held taken phase → (held - unitsOf phase ≡ 0) × (spent + min (depthAsked back taken) (unitsOf phase) ≤ grant)
 close-by back spent held taken grant idle b p = (omega arith, omega arith)
@@ -83,10 +86,12 @@ close-by back spent held taken grant (running t u) b (a, c, d, e, f) = (omega ar
 pub sound-close : (s : Station) → Sound s → Sound (afterClose s)
 sound-close s h =
     let c = close-by (s .back) (s .spent) (s .held) (s .steps) (s .setting .grant) (s .phase) (h .budget) (h .phase-sound) in
-    record
-      { lanes-long = h .lanes-long; noise-long = h .noise-long
-      ; budget = omega (arith, c .0, c .1)
-      ; phase-sound = c .0 }
+    record {
+      lanes-long = h .lanes-long;
+      noise-long = h .noise-long;
+      budget = omega (arith, c .0, c .1);
+      phase-sound = c .0;
+    }
 
 sound-by : (s : Station) (call : Call) (o : Option Told) → refusal s call ≡ o → Sound s → Sound (stationBy o s call)
 sound-by s call (Some told) e h = h

@@ -62,9 +62,10 @@ module _ (says : Says) (stands : Stands) (keeps : Keeps says stands) where
 
   ready-later : (class from : ℕ) (z : ℤ) (l : List Call) → Lawful l → LawfulCall (finishes class z) → class < from → (lanes : List Lane) → AllFrom (Ready l) from lanes → AllFrom (Ready (l ++ finishes class z ∷ [])) from lanes
   ready-later class from z l lawful f h [] r = tt
-  ready-later class from z l lawful f h (lane ∷ lanes) (r, rs) =
-      ( λ e le q. let o = r e le q in (o .0, keeps .others l class z from e (o .0) lawful f (λ eq. omega arith) .0 (o .1), o .2, o .3)
-      , ready-later class (suc from) z l lawful f (omega arith) lanes rs )
+  ready-later class from z l lawful f h (lane ∷ lanes) (r, rs) = (
+    λ e le q. let o = r e le q in (o .0, keeps .others l class z from e (o .0) lawful f (λ eq. omega arith) .0 (o .1), o .2, o .3),
+    ready-later class (suc from) z l lawful f (omega arith) lanes rs,
+  )
 
   pub stand-all : (class : ℕ) (lanes : List Lane) (l : List Call) (now : Says) → ((m : List Call) → now m ≡ says (l ++ m)) → Lawful l → class + length lanes ≤ classLimit → All (SFits w64) (map release lanes) → AllFrom (λ _ lane. lane .count ≤ countLimit) class lanes → AllFrom (Ready l) class lanes → AllFrom (Stand (l ++ finishesOf class (map release lanes))) class (publishAll lanes (answersTo now class (map release lanes)))
   stand-all class [] l now same lawful h f k r = tt
@@ -73,17 +74,18 @@ module _ (says : Says) (stands : Stands) (keeps : Keeps says stands) where
       let fits : LawfulCall (finishes class (release lane)) = (omega arith, f) in
       let lawful-next = all-append LawfulCall l (finishes class z ∷ []) lawful (fits, tt) in
       let after-next : (m : List Call) → now (finishes class (release lane) ∷ m) ≡ says ((l ++ finishes class (release lane) ∷ []) ++ m) =
-          λ m. same (finishes class z ∷ m) ∙ ap says (sym (append-assoc l (finishes class z ∷ []) m)) in
+      λ m. same (finishes class z ∷ m) ∙ ap says (sym (append-assoc l (finishes class z ∷ []) m)) in
       let later-fits = lawful-finishes (suc class) (map release lanes) (simp length-map (omega arith)) fs in
       let rest = stand-all (suc class) lanes (l ++ finishes class z ∷ []) (after (finishes class z) now) after-next lawful-next (omega arith) fs ks (ready-later class (suc class) z l lawful fits (omega arith) lanes rs) in
       let head : Stand (l ++ finishesOf class (map release (lane ∷ lanes))) class (publish lane (now [] class (release lane))) =
-          λ e le q.
-          let o = r e le q in
-          let n = keeps .near l class z e (o .0) (lane .count) lawful fits (o .1) (o .2) k le (o .3) in
-          let stood = others-on (suc class) class e (lane .count) (map release lanes) (l ++ finishes class z ∷ []) (omega arith) lawful-next later-fits (n .1) in
-          let said : says l class z ≡ now [] class z = ap (λ (k : List Call). says k class z) (sym (append-nil l)) ∙ ap (λ (g : ℕ → ℤ → ℤ). g class z) (sym (same [])) in
-          ( subst (λ (k : List Call). stands k class e (lane .count)) (append-assoc l (finishes class z ∷ []) (finishesOf (suc class) (map release lanes))) stood
-          , subst (λ (y : ℤ). Within e y (lane .count)) said (n .0) ) in
+      λ e le q.
+      let o = r e le q in
+      let n = keeps .near l class z e (o .0) (lane .count) lawful fits (o .1) (o .2) k le (o .3) in
+      let stood = others-on (suc class) class e (lane .count) (map release lanes) (l ++ finishes class z ∷ []) (omega arith) lawful-next later-fits (n .1) in
+      let said : says l class z ≡ now [] class z = ap (λ (k : List Call). says k class z) (sym (append-nil l)) ∙ ap (λ (g : ℕ → ℤ → ℤ). g class z) (sym (same [])) in (
+        subst (λ (k : List Call). stands k class e (lane .count)) (append-assoc l (finishes class z ∷ []) (finishesOf (suc class) (map release lanes))) stood,
+        subst (λ (y : ℤ). Within e y (lane .count)) said (n .0),
+      ) in
       (head, subst (λ (k : List Call). AllFrom (Stand k) (suc class) (publishAll lanes (answersTo (after (finishes class z) now) (suc class) (map release lanes)))) (append-assoc l (finishes class z ∷ []) (finishesOf (suc class) (map release lanes))) rest)
 
 -- what the finisher says after a row

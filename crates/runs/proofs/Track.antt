@@ -62,9 +62,10 @@ all-map-from P f class (lane ∷ lanes) (h, hs) = (h, all-map-from P f (suc clas
 -- each count of a row is the one of its class
 own-counts : (before row : List ℕ) → AllCounts (λ class x. x ≡ getD (before ++ row) class 0) (length before) row
 own-counts before [] = tt
-own-counts before (x ∷ row) =
-    ( sym (getD-at before x row 0 (length before) refl)
-    , subst (λ (k : ℕ). AllCounts (λ class y. y ≡ getD (before ++ x ∷ row) class 0) k row) (length-push before x ∙ omega arith) (subst (λ (xs : List ℕ). AllCounts (λ class y. y ≡ getD xs class 0) (length (before ++ x ∷ [])) row) (append-assoc before (x ∷ []) row) (own-counts (before ++ x ∷ []) row)) )
+own-counts before (x ∷ row) = (
+  sym (getD-at before x row 0 (length before) refl),
+  subst (λ (k : ℕ). AllCounts (λ class y. y ≡ getD (before ++ x ∷ row) class 0) k row) (length-push before x ∙ omega arith) (subst (λ (xs : List ℕ). AllCounts (λ class y. y ≡ getD xs class 0) (length (before ++ x ∷ [])) row) (append-assoc before (x ∷ []) row) (own-counts (before ++ x ∷ []) row)),
+)
 
 count-more : (class : ℕ) (rows : List (List ℕ)) (row : List ℕ) → trueCount class (rows ++ row ∷ []) ≡ trueCount class rows + getD row class 0
 count-more class [] row = omega arith
@@ -88,26 +89,34 @@ release-fits p t lane few long c n =
 
 pub track-made : (p : Parts) → Track p (make p) 0 [] []
 track-made p =
-    record
-      { setting = refl; back = refl; says = λ m. refl; lawful = tt
-      ; cells = ap (λ (k : ℕ). drop k (p .cells)) (sym (mul-zero (p .setting .classes)))
-      ; rows-long = refl; rows-few = omega arith
-      ; counts = new-all (λ class lane. lane .count ≡ 0) (λ _. refl) 0 (p .setting .classes)
-      ; small = new-all (λ _ lane. lane .count ≤ 1000 * 0) (λ _. omega arith) 0 (p .setting .classes)
-      ; noise = λ a _. new-all (λ _ lane. NoiseBound a (p .back) (lane .noise)) (λ _. noise-none a (p .back)) 0 (p .setting .classes) }
+    record {
+      setting = refl;
+      back = refl;
+      says = λ m. refl;
+      lawful = tt;
+      cells = ap (λ (k : ℕ). drop k (p .cells)) (sym (mul-zero (p .setting .classes)));
+      rows-long = refl;
+      rows-few = omega arith;
+      counts = new-all (λ class lane. lane .count ≡ 0) (λ _. refl) 0 (p .setting .classes);
+      small = new-all (λ _ lane. lane .count ≤ 1000 * 0) (λ _. omega arith) 0 (p .setting .classes);
+      noise = λ a _. new-all (λ _ lane. NoiseBound a (p .back) (lane .noise)) (λ _. noise-none a (p .back)) 0 (p .setting .classes);
+    }
 
 module _ (p : Parts) (lawful-parts : LawfulParts p) (s : Station) (n : ℕ) (rows : List (List ℕ)) (l : List Call) (t : Track p s n rows l) where
   pub track-open : (epoch : ℕ) → Track p (afterOpen s epoch) n [] (l ++ begins ∷ [])
   track-open epoch =
-      record
-        { setting = t .setting; back = t .back
-        ; says = λ m. t .says (begins ∷ m) ∙ ap (p .says) (sym (append-assoc l (begins ∷ []) m))
-        ; lawful = all-append LawfulCall l (begins ∷ []) (t .lawful) (tt, tt)
-        ; cells = t .cells
-        ; rows-long = refl; rows-few = omega arith
-        ; counts = new-all (λ class lane. lane .count ≡ 0) (λ _. refl) 0 (s .setting .classes)
-        ; small = new-all (λ _ lane. lane .count ≤ 1000 * 0) (λ _. omega arith) 0 (s .setting .classes)
-        ; noise = λ a _. new-all (λ _ lane. NoiseBound a (p .back) (lane .noise)) (λ _. noise-none a (p .back)) 0 (s .setting .classes) }
+      record {
+        setting = t .setting;
+        back = t .back;
+        says = λ m. t .says (begins ∷ m) ∙ ap (p .says) (sym (append-assoc l (begins ∷ []) m));
+        lawful = all-append LawfulCall l (begins ∷ []) (t .lawful) (tt, tt);
+        cells = t .cells;
+        rows-long = refl;
+        rows-few = omega arith;
+        counts = new-all (λ class lane. lane .count ≡ 0) (λ _. refl) 0 (s .setting .classes);
+        small = new-all (λ _ lane. lane .count ≤ 1000 * 0) (λ _. omega arith) 0 (s .setting .classes);
+        noise = λ a _. new-all (λ _ lane. NoiseBound a (p .back) (lane .noise)) (λ _. noise-none a (p .back)) 0 (s .setting .classes);
+      }
 
   classes : s .setting .classes ≡ p .setting .classes
   classes = ap (λ (x : Setting). x .classes) (t .setting)
@@ -118,9 +127,18 @@ module _ (p : Parts) (lawful-parts : LawfulParts p) (s : Station) (n : ℕ) (row
 
   pub track-close : Track p (afterClose s) n rows l
   track-close =
-      record
-        { setting = t .setting; back = t .back; says = t .says; lawful = t .lawful; cells = t .cells
-        ; rows-long = t .rows-long; rows-few = t .rows-few; counts = t .counts; small = t .small; noise = t .noise }
+      record {
+        setting = t .setting;
+        back = t .back;
+        says = t .says;
+        lawful = t .lawful;
+        cells = t .cells;
+        rows-long = t .rows-long;
+        rows-few = t .rows-few;
+        counts = t .counts;
+        small = t .small;
+        noise = t .noise;
+      }
 
 pub narrow-rows : (p : Parts) → LawfulParts p → (m r : ℕ) → All (λ cell. Within (2 ^ 31) cell 0) (rowCells p m r)
 narrow-rows p lawful-parts m r =
@@ -159,7 +177,7 @@ module _ (p : Parts) (lawful-parts : LawfulParts p) (s : Station) (n : ℕ) (row
   back-now : backAsked (s .back) (suc (s .steps)) ≡ backAsked (p .back) (suc (s .steps))
   back-now = ap (λ (b : ℕ → ℕ). backAsked b (suc (s .steps))) (t .back)
 
-  counts-now : AllFrom (λ class lane. lane .count ≡ trueCount class (rows ++ row ∷ [])) 0 (advanced s row)
+  pub counts-now : AllFrom (λ class lane. lane .count ≡ trueCount class (rows ++ row ∷ [])) 0 (advanced s row)
   counts-now =
       advance-all (λ class lane. lane .count ≡ trueCount class rows) (λ class lane. lane .count ≡ trueCount class (rows ++ row ∷ [])) (λ class x. x ≡ getD row class 0) (λ _. Unit {0}) _
       (λ class lane x cell c e _. let m = count-more class rows row in omega arith)
@@ -171,7 +189,7 @@ module _ (p : Parts) (lawful-parts : LawfulParts p) (s : Station) (n : ℕ) (row
       (λ class lane x cell c e _. omega arith)
       0 (s .lanes) row _ (t .small) (all-counts (λ x. x ≤ 1000) 0 row (f .small)) (every-cell (take (s .setting .classes) (s .cells)))
 
-  long-now : AllFrom (λ _ lane. length (lane .noise) ≡ suc (s .steps)) 0 (advanced s row)
+  pub long-now : AllFrom (λ _ lane. length (lane .noise) ≡ suc (s .steps)) 0 (advanced s row)
   long-now =
       advance-all (λ _ lane. length (lane .noise) ≡ s .steps) (λ _ lane. length (lane .noise) ≡ suc (s .steps)) (λ _ x. x ≤ 1000) (λ _. Unit {0}) _
       (λ class lane x cell c e _. length-push (lane .noise) _ ∙ omega arith)
@@ -201,16 +219,18 @@ module _ (p : Parts) (lawful-parts : LawfulParts p) (s : Station) (n : ℕ) (row
   pub track-step : Track p (afterRow s row) (suc n) (rows ++ row ∷ []) (l ++ finishesOf 0 (map release (advanced s row)))
   track-step =
       let longer = length-push rows row in
-      record
-        { setting = t .setting; back = t .back
-        ; says = λ m. says-after (s .says) 0 (map release (advanced s row)) m ∙ (t .says (finishesOf 0 (map release (advanced s row)) ++ m) ∙ ap (p .says) (sym (append-assoc l (finishesOf 0 (map release (advanced s row))) m)))
-        ; lawful = all-append LawfulCall l (finishesOf 0 (map release (advanced s row))) (t .lawful) lawful-row
-        ; cells = ap (λ (k : ℕ). drop k (s .cells)) same-classes ∙ (ap (drop (p .setting .classes)) (t .cells) ∙ (drop-drop (p .setting .classes) (p .setting .classes * n) (p .cells) ∙ ap (λ (k : ℕ). drop k (p .cells)) (sym (mul-suc (p .setting .classes) n))))
-        ; rows-long = longer ∙ omega (arith, t .rows-long)
-        ; rows-few = omega (arith, t .rows-few)
-        ; counts = publish-all (λ class lane. lane .count ≡ trueCount class (rows ++ row ∷ [])) (λ class lane. lane .count ≡ trueCount class (rows ++ row ∷ [])) (λ _ _ _ x. x) 0 (advanced s row) _ counts-now
-        ; small = publish-all (λ _ lane. lane .count ≤ 1000 * suc (s .steps)) (λ _ lane. lane .count ≤ 1000 * suc (s .steps)) (λ _ _ _ x. x) 0 (advanced s row) _ small-now
-        ; noise = λ a w. publish-all (λ _ lane. NoiseBound a (p .back) (lane .noise)) (λ _ lane. NoiseBound a (p .back) (lane .noise)) (λ _ _ _ x. x) 0 (advanced s row) _ (noise-now a (subst (λ (k : ℕ). All (λ cell. Within a cell 0) (rowCells p (suc n) k)) (longer ∙ omega arith) w)) }
+      record {
+        setting = t .setting;
+        back = t .back;
+        says = λ m. says-after (s .says) 0 (map release (advanced s row)) m ∙ (t .says (finishesOf 0 (map release (advanced s row)) ++ m) ∙ ap (p .says) (sym (append-assoc l (finishesOf 0 (map release (advanced s row))) m)));
+        lawful = all-append LawfulCall l (finishesOf 0 (map release (advanced s row))) (t .lawful) lawful-row;
+        cells = ap (λ (k : ℕ). drop k (s .cells)) same-classes ∙ (ap (drop (p .setting .classes)) (t .cells) ∙ (drop-drop (p .setting .classes) (p .setting .classes * n) (p .cells) ∙ ap (λ (k : ℕ). drop k (p .cells)) (sym (mul-suc (p .setting .classes) n))));
+        rows-long = longer ∙ omega (arith, t .rows-long);
+        rows-few = omega (arith, t .rows-few);
+        counts = publish-all (λ class lane. lane .count ≡ trueCount class (rows ++ row ∷ [])) (λ class lane. lane .count ≡ trueCount class (rows ++ row ∷ [])) (λ _ _ _ x. x) 0 (advanced s row) _ counts-now;
+        small = publish-all (λ _ lane. lane .count ≤ 1000 * suc (s .steps)) (λ _ lane. lane .count ≤ 1000 * suc (s .steps)) (λ _ _ _ x. x) 0 (advanced s row) _ small-now;
+        noise = λ a w. publish-all (λ _ lane. NoiseBound a (p .back) (lane .noise)) (λ _ lane. NoiseBound a (p .back) (lane .noise)) (λ _ _ _ x. x) 0 (advanced s row) _ (noise-now a (subst (λ (k : ℕ). All (λ cell. Within a cell 0) (rowCells p (suc n) k)) (longer ∙ omega arith) w));
+      }
 
   pub stand-step : (stands : Stands) (keeps : Keeps (p .says) stands) → AllFrom (Stand (p .says) stands keeps l) 0 (s .lanes) → AllFrom (Stand (p .says) stands keeps (l ++ finishesOf 0 (map release (advanced s row)))) 0 (afterRow s row .lanes)
   stand-step stands keeps st =

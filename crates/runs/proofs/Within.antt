@@ -109,8 +109,8 @@ within-units p q js r n =
     let e = ap nonzero (shifts-front p lawful n js (make p) unseen) in
     let grant = ap (λ (x : Setting). x .grant) (f .track .setting) in
     let bal : answerTo p calls balances (balance (p .setting .grant) (s .spent) (s .held)) =
-        answers-push (make p) calls balances ∙ ap (λ (g : ℕ). answers (make p) calls ++ balance g (s .spent) (s .held) ∷ []) grant in
+    answers-push (make p) calls balances ∙ ap (λ (g : ℕ). answers (make p) calls ++ balance g (s .spent) (s .held) ∷ []) grant in
     let within : differing (drawn p calls) (p .cells) (q .cells) ≤ s .spent + s .held =
-        subst (λ (xs : List ℤ). differing (drawn p calls) (p .cells) xs ≤ s .spent + s .held) (sym (r .moved)) (omega (arith, d, e, moved)) in
+    subst (λ (xs : List ℤ). differing (drawn p calls) (p .cells) xs ≤ s .spent + s .held) (sym (r .moved)) (omega (arith, d, e, moved)) in
     let budget : s .spent + s .held ≤ p .setting .grant = let b = f .sound .budget in omega (arith, b, grant) in
     subst (λ (cs : List Call). (spent : ℕ) × (held : ℕ) × answerTo p cs balances (balance (p .setting .grant) spent held) × (differing (drawn p cs) (p .cells) (q .cells) ≤ spent + held) × (spent + held ≤ p .setting .grant)) (sym (take-map first n js)) (s .spent, s .held, bal, within, budget)

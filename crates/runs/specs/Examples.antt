@@ -14,11 +14,12 @@ use Rattle.runs.specs.Law.{Parts, Pair, make}
 -- one class, a grant of 5, the dyadic plan
 abbrev pub four : Says → Parts
 four says =
-    record
-      { setting = record { number = 9; classes = 1; grant = 5 }
-      ; back = dyadic
-      ; cells = pos 2 ∷ negsuc 0 ∷ negsuc 3 ∷ pos 3 ∷ []
-      ; says = says }
+    record {
+      setting = record { number = 9; classes = 1; grant = 5 };
+      back = dyadic;
+      cells = pos 2 ∷ negsuc 0 ∷ negsuc 3 ∷ pos 3 ∷ [];
+      says = says;
+    }
 
 abbrev pub fourRows : List Call
 fourRows =
@@ -48,9 +49,12 @@ twoEpochs =
 
 abbrev pub twice : List ℤ → Parts
 twice cells =
-    record
-      { setting = record { number = 9; classes = 1; grant = 10 }
-      ; back = dyadic; cells = cells; says = rising plain noneHeld }
+    record {
+      setting = record { number = 9; classes = 1; grant = 10 };
+      back = dyadic;
+      cells = cells;
+      says = rising plain noneHeld;
+    }
 
 -- three cells are moved: both of the first epoch, whose parts hold step 1, and the second one of the second epoch
 abbrev pub WorkedPair : Type 0

@@ -5,15 +5,17 @@ use mathlib.Core.List.{List, [], _∷_, _++_, map}
 use mathlib.Core.Logic.{_↔_}
 use mathlib.Core.Path.{_≡_}
 use lib.Dec.{eqb}
-use lib.IntN.{ℤ, pos, negsuc}
+use lib.IntN.{ℤ, pos, negsuc, _+ℤ_}
 use lib.ListN.{length, getD, take, drop}
 use mir.Syntax.{w32}
 use mir.Val.{SFits}
 use Rattle.std.specs.shelf.Lists.{All}
-use Rattle.plan.specs.Plans.{horizon, Falls, AgreeTo, breadth}
+use Rattle.plan.specs.Plans.{horizon, Falls, AgreeTo, cover, depth, breadth}
 use Rattle.finisher.specs.Finishers.{Says, Alike, Within}
-use Rattle.runs.specs.Model.{Setting, Station, Call, steps, reads, balances, Answer, stepped, published, balance, made}
-use Rattle.runs.specs.Runs.{answers, rowsTaken, epochRows, trueCount, Joint, first, second, unseen, shifts, movedBy, Agreed}
+use Rattle.finisher.specs.Finishers as finisher
+use Rattle.runs.specs.Model.{Setting, Station, Call, steps, closes, reads, balances, Answer, opened, stepped, closed, published, balance, refused, made}
+use Rattle.std.specs.Iters.{counting}
+use Rattle.runs.specs.Runs.{answers, rowsTaken, epochAfter, epochRows, trueCount, Joint, first, second, unseen, shifts, movedBy, Agreed}
 
 -- what a station is made from
 pub record Parts : Type 0 where
@@ -95,6 +97,63 @@ Accurate p =
     → class < p .setting .classes
     → (count : ℤ) × answerTo p (calls ++ steps row ∷ []) (reads class) (published count)
     × Within (a * breadth (p .back) step) count (trueCount class (epochRows [] (calls ++ steps row ∷ []) (answers (make p) (calls ++ steps row ∷ []))))
+
+-- Each station by itself
+
+-- the noise of a class: the cells of the parts of a cover, in an epoch before which so many rows were drawn for
+abbrev pub coverNoise : Parts → ℕ → ℕ → List ℕ → ℤ
+coverNoise p before class [] = pos 0
+coverNoise p before class (u ∷ us) = cellAt p (p .setting .classes * (before + (u - 1)) + class) +ℤ coverNoise p before class us
+
+-- a class's true count plus the noise of the cover of its newest step
+abbrev pub releaseOf : Parts → ℕ → List (List ℕ) → ℕ → ℤ
+releaseOf p before rows class = pos (trueCount class rows) +ℤ coverNoise p before class (cover (p .back) (length rows))
+
+-- the finisher's calls for the newest of an epoch's rows: one finish a class
+abbrev pub rowFinishes : Parts → ℕ → List (List ℕ) → List finisher.Call
+rowFinishes p before rows = map (λ class. finisher.finishes class (releaseOf p before rows class)) (counting 0 (p .setting .classes))
+
+-- the finisher's calls for one answered call, after n rows in all, the epoch's being these
+abbrev pub finishesFor : Parts → ℕ → List (List ℕ) → Call → Answer → List finisher.Call
+finishesFor p n rows call (opened number serial) = finisher.begins ∷ []
+finishesFor p n rows call (stepped step) = rowFinishes p (n - length rows) (epochAfter rows call (stepped step))
+finishesFor p n rows call (closed taken units) = []
+finishesFor p n rows call (published count) = []
+finishesFor p n rows call (balance grant spent held) = []
+finishesFor p n rows call (refused told) = []
+
+abbrev pub finisherCalls : Parts → ℕ → List (List ℕ) → List Call → List Answer → List finisher.Call
+finisherCalls p n rows [] told = []
+finisherCalls p n rows (call ∷ calls) [] = []
+finisherCalls p n rows (call ∷ calls) (a ∷ rest) =
+    finishesFor p n rows call a ++ finisherCalls p (rowsTaken (a ∷ []) + n) (epochAfter rows call a) calls rest
+
+-- after an accepted step a read answers what the finisher, as it was made, says to the true count plus the noise of the
+-- cover, after all begins and finishes before: those of the run so far, and of the earlier classes of this row
+abbrev pub Published : Parts → Type 0
+Published p =
+    (calls : List Call) (row : List ℕ) (step class : ℕ)
+    → answerTo p calls (steps row) (stepped step)
+    → class < p .setting .classes
+    → let rows = epochRows [] calls (answers (make p) calls) in
+    let before = rowsTaken (answers (make p) calls) - length rows in
+    answerTo p (calls ++ steps row ∷ []) (reads class)
+    (published (p .says (finisherCalls p 0 [] calls (answers (make p) calls) ++ take class (rowFinishes p before (rows ++ row ∷ []))) class (releaseOf p before (rows ++ row ∷ []) class)))
+
+-- a close spends the depth of the steps taken
+abbrev pub SpendsDepth : Parts → Type 0
+SpendsDepth p =
+    (calls : List Call) (number serial taken units : ℕ)
+    → answerTo p calls (closes number serial) (closed taken units)
+    → (taken ≡ length (epochRows [] calls (answers (make p) calls))) × (units ≡ depth (p .back) taken)
+
+-- the law of every run
+pub record EachRun (p : Parts) : Type 0 where
+  pub published-counts : Published p
+  pub spends-depth : SpendsDepth p
+  pub accurate : Accurate p
+
+-- Every two stations
 
 -- every answer is the same in both
 abbrev pub SameAnswers : Type 0

@@ -118,10 +118,11 @@ noiseAt noise (suc k) = getD noise k (pos 0)
 -- a class takes its count and its cell: the true count grows, and the new noise is the cell and the noise of the back step
 abbrev pub advance : ℕ → Lane → ℕ → ℤ → Lane
 advance back lane count cell =
-    record
-      { count = lane .count + count
-      ; noise = lane .noise ++ (cell +ℤ noiseAt (lane .noise) back) ∷ []
-      ; published = lane .published }
+    record {
+      count = lane .count + count;
+      noise = lane .noise ++ (cell +ℤ noiseAt (lane .noise) back) ∷ [];
+      published = lane .published;
+    }
 
 abbrev pub advanceAll : ℕ → List Lane → List ℕ → List ℤ → List Lane
 advanceAll back (lane ∷ lanes) (count ∷ row) (cell ∷ cells) = advance back lane count cell ∷ advanceAll back lanes row cells
@@ -153,14 +154,18 @@ advanced s row = advanceAll (backAsked (s .back) (suc (s .steps))) (s .lanes) ro
 
 abbrev pub afterRow : Station → List ℕ → Station
 afterRow s row =
-    record
-      { setting = s .setting; back = s .back
-      ; cells = drop (s .setting .classes) (s .cells)
-      ; says = saysAfter (s .says) 0 (map release (advanced s row))
-      ; spent = s .spent; held = s .held; serial = s .serial
-      ; steps = suc (s .steps)
-      ; lanes = publishAll (advanced s row) (answersTo (s .says) 0 (map release (advanced s row)))
-      ; phase = s .phase }
+    record {
+      setting = s .setting;
+      back = s .back;
+      cells = drop (s .setting .classes) (s .cells);
+      says = saysAfter (s .says) 0 (map release (advanced s row));
+      spent = s .spent;
+      held = s .held;
+      serial = s .serial;
+      steps = suc (s .steps);
+      lanes = publishAll (advanced s row) (answersTo (s .says) 0 (map release (advanced s row)));
+      phase = s .phase;
+    }
 
 -- Open and close
 
@@ -169,15 +174,18 @@ emptyLane = record { count = 0; noise = []; published = pos 0 }
 
 abbrev pub afterOpen : Station → ℕ → Station
 afterOpen s epoch =
-    record
-      { setting = s .setting; back = s .back; cells = s .cells
-      ; says = after begins (s .says)
-      ; spent = s .spent
-      ; held = s .held + depthAsked (s .back) epoch
-      ; serial = suc (s .serial)
-      ; steps = 0
-      ; lanes = replicate (s .setting .classes) emptyLane
-      ; phase = running epoch (depthAsked (s .back) epoch) }
+    record {
+      setting = s .setting;
+      back = s .back;
+      cells = s .cells;
+      says = after begins (s .says);
+      spent = s .spent;
+      held = s .held + depthAsked (s .back) epoch;
+      serial = suc (s .serial);
+      steps = 0;
+      lanes = replicate (s .setting .classes) emptyLane;
+      phase = running epoch (depthAsked (s .back) epoch);
+    }
 
 -- a close spends the depth of the steps taken, out of the units that the epoch holds
 abbrev pub unitsSpent : Station → ℕ
@@ -185,12 +193,18 @@ unitsSpent s = min (depthAsked (s .back) (s .steps)) (unitsOf (s .phase))
 
 abbrev pub afterClose : Station → Station
 afterClose s =
-    record
-      { setting = s .setting; back = s .back; cells = s .cells; says = s .says
-      ; spent = s .spent + unitsSpent s
-      ; held = s .held - unitsOf (s .phase)
-      ; serial = s .serial; steps = s .steps; lanes = s .lanes
-      ; phase = idle }
+    record {
+      setting = s .setting;
+      back = s .back;
+      cells = s .cells;
+      says = s .says;
+      spent = s .spent + unitsSpent s;
+      held = s .held - unitsOf (s .phase);
+      serial = s .serial;
+      steps = s .steps;
+      lanes = s .lanes;
+      phase = idle;
+    }
 
 -- Answers
 
@@ -233,8 +247,15 @@ next s call = stationBy (refusal s call) s call
 
 abbrev pub made : Setting → (ℕ → ℕ) → List ℤ → Says → Station
 made setting back cells says =
-    record
-      { setting = setting; back = back; cells = cells; says = says
-      ; spent = 0; held = 0; serial = 0; steps = 0
-      ; lanes = replicate (setting .classes) emptyLane
-      ; phase = idle }
+    record {
+      setting = setting;
+      back = back;
+      cells = cells;
+      says = says;
+      spent = 0;
+      held = 0;
+      serial = 0;
+      steps = 0;
+      lanes = replicate (setting .classes) emptyLane;
+      phase = idle;
+    }

@@ -1,0 +1,2 @@
+pub mod Noises
+pub mod Turns

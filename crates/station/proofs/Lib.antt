@@ -1,0 +1,7 @@
+mod Noises
+mod Phasing
+mod Refusing
+mod Rows
+mod Same
+mod Serving
+pub mod Worked
