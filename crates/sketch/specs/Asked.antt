@@ -6,8 +6,8 @@ use Rattle.std.specs.declared.result.Result.{Result}
 use Rattle.std.specs.declared.result.Result.the-variants.{Ok, Err}
 use Rattle.fault.specs.declared.Fault.{Fault}
 use Rattle.fault.specs.declared.Cause.the-variants.{Horizon}
-use Rattle.fault.specs.declared.Layer.the-variants.{Plan}
+use Rattle.fault.specs.declared.Layer.the-variants.{Station}
 use Rattle.plan.specs.Plans.{horizon}
 
 abbrev pub horizonAsked : ℕ → Result ℕ Fault
-horizonAsked n = cond (leb 1 n && leb n horizon) (Ok n) (Err (record { cause = Horizon n; layer = Plan }))
+horizonAsked n = cond (leb 1 n && leb n horizon) (Ok n) (Err (record { cause = Horizon n; layer = Station }))

@@ -99,7 +99,7 @@ pub fn horizon_by_number(number: u16) -> Result<u16, Fault>
     } else {
         Err(Fault {
             cause: Cause::Horizon(number),
-            layer: Layer::Plan,
+            layer: Layer::Station,
         })
     }
 }
