@@ -1,4 +1,4 @@
-//! Accounts of units, and holds on an epoch.
+//! Accounts of units.
 
 ghost use mathlib.Core.Bool.{false};
 ghost use mathlib.Core.Path.{_≡_};
@@ -97,43 +97,5 @@ impl Account {
         let ended = units.min(self.held);
         self.held -= ended;
         self.spent += spent.min(ended);
-    }
-}
-
-/// The right to end an epoch: the number of its station and the epoch's serial. It cannot be let go: it ends in a
-/// close, or by being written off.
-pub struct Hold {
-    station: u32,
-    serial: u16,
-}
-
-impl Hold {
-    /// A hold on an epoch of a station.
-    pub fn new(station: u32, serial: u16) -> Hold
-        ensures { λ r. ⌜ (r .station ≡ station) × (r .serial ≡ serial) ⌝ }
-    {
-        Hold { station, serial }
-    }
-
-    /// The station's number.
-    pub fn station(&self) -> u32
-        ensures { λ r. ⌜ r ≡ now (self .entry) .station ⌝ }
-    {
-        self.station
-    }
-
-    /// The epoch's serial.
-    pub fn serial(&self) -> u16
-        ensures { λ r. ⌜ r ≡ now (self .entry) .serial ⌝ }
-    {
-        self.serial
-    }
-
-    /// Gives the hold up, and answers its two numbers.
-    pub fn write_off(self) -> (u32, u16)
-        ensures { λ r. ⌜ r ≡ (self .station, self .serial) ⌝ }
-    {
-        let Hold { station, serial } = self;
-        (station, serial)
     }
 }

@@ -20,7 +20,7 @@ use Rattle.finisher.specs.Finishers.{Stands, Keeps, Within, countLimit}
 use Rattle.finisher.specs.Finishers as finisher
 use Rattle.runs.specs.Model.{Setting, Station, isOpen, Call, steps, reads, Answer, stepped, published, refused, refusal, checks, firstTold, answerBy, stationBy, answer, next, afterRow, afterClose, laneAt, emptyLane}
 use Rattle.runs.specs.Runs.{answers, stationAfter, rowsTaken, epochRows, trueCount}
-use Rattle.runs.specs.Law.{Parts, LawfulParts, Accurate, make, answerTo, epochCells}
+use Rattle.runs.specs.Law.{Making, LawfulMaking, Accurate, make, answerTo, epochCells}
 use Rattle.runs.proofs.Facts.{Steps, step-facts}
 use Rattle.runs.proofs.Lanes.{AllFrom, all-from-at}
 use Rattle.runs.proofs.Noise.{NoiseBound, within-zero}
@@ -47,7 +47,7 @@ min-within a b (c ∷ cells) (h, hs) (k, ks) =
 within-more : (b c n : ℕ) (z : ℤ) → b ≤ c → Within b z n → Within c z n
 within-more b c n z h w = (omega (arith, ints, w .0, w .1), omega (arith, ints, w .0, w .1))
 
-module _ (p : Parts) (lawful : LawfulParts p) (stands : Stands) (keeps : Keeps (p .says) stands) where
+module _ (p : Making) (lawful : LawfulMaking p) (stands : Stands) (keeps : Keeps (p .says) stands) where
   -- where the finisher stands while an epoch is open
   abbrev Steady : List finisher.Call → Station → Type 0
   Steady l s = isOpen (s .phase) ≡ true → AllFrom (Stand (p .says) stands keeps l) 0 (s .lanes)

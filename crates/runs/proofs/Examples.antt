@@ -13,14 +13,14 @@ use Rattle.plan.specs.Known.{dyadic, powerIn}
 use Rattle.plan.proofs.Dyadics.{dyadic-falls}
 use Rattle.runs.specs.Model.{Answer}
 use Rattle.runs.specs.Runs.{Agreed, answers}
-use Rattle.runs.specs.Law.{Parts, LawfulParts, Pair, make, firsts}
+use Rattle.runs.specs.Law.{Making, LawfulMaking, Pair, make, firsts}
 use Rattle.runs.specs.Examples.{WorkedRun, WorkedPair, twice, twoEpochs}
 
 pub worked-run : WorkedRun
 unfolding dyadic powerIn depth greatest holding total holds
 worked-run = (refl, refl)
 
-lawful-twice : (cells : List ℤ) → All (SFits w32) cells → LawfulParts (twice cells)
+lawful-twice : (cells : List ℤ) → All (SFits w32) cells → LawfulMaking (twice cells)
 lawful-twice cells h = record { some = lit≤ tt; few = lit≤ tt; falls = dyadic-falls horizon; narrow = h }
 
 pub worked-pair : WorkedPair

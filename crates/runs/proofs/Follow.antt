@@ -12,7 +12,7 @@ use Rattle.fault.specs.Told.{Told}
 use Rattle.finisher.specs.Finishers as finisher
 use Rattle.runs.specs.Model.{Station, isOpen, idle, running, Call, opens, steps, closes, reads, balances, Answer, opened, stepped, closed, published, balance, refused, refusal, answerBy, stationBy, answer, next, advanced, release, afterRow, afterOpen, afterClose}
 use Rattle.runs.specs.Runs.{answers, stationAfter, rowsTaken, epochAfter, epochRows}
-use Rattle.runs.specs.Law.{Parts, LawfulParts, make}
+use Rattle.runs.specs.Law.{Making, LawfulMaking, make}
 use Rattle.runs.proofs.Facts.{Opens, open-facts, Steps, step-facts, close-facts}
 use Rattle.runs.proofs.Sound.{Sound, sound-made, sound-open, sound-step, sound-close}
 use Rattle.runs.proofs.Standing.{finishesOf}
@@ -34,7 +34,7 @@ answer-is s calls call a e =
     same-last (answer (stationAfter s calls) call) a (append-cancel-left (answers s calls) (answer (stationAfter s calls) call ∷ []) (a ∷ []) (sym (answers-push s calls call) ∙ e))
 
 -- a fact of the finisher's calls and the station that every call carries on
-pub record Carried (p : Parts) (Q : List finisher.Call → Station → Type 0) : Type 0 where
+pub record Carried (p : Making) (Q : List finisher.Call → Station → Type 0) : Type 0 where
   pub at-start : Q [] (make p)
   pub at-open : (s : Station) (n : ℕ) (rows : List (List ℕ)) (l : List finisher.Call) → Track p s n rows l → (epoch : ℕ) → Q (l ++ finisher.begins ∷ []) (afterOpen s epoch)
   pub at-step : (s : Station) (n : ℕ) (rows : List (List ℕ)) (l : List finisher.Call) → Track p s n rows l → (row : List ℕ) → Steps s row → Sound s → Q l s → Q (l ++ finishesOf 0 (map release (advanced s row))) (afterRow s row)
@@ -48,7 +48,7 @@ rows-taken-more (published count) rest = omega arith
 rows-taken-more (balance grant spent held) rest = omega arith
 rows-taken-more (refused told) rest = omega arith
 
-module _ (p : Parts) (lawful : LawfulParts p) (Q : List finisher.Call → Station → Type 0) (carried : Carried p Q) where
+module _ (p : Making) (lawful : LawfulMaking p) (Q : List finisher.Call → Station → Type 0) (carried : Carried p Q) where
   pub record Keeping (s : Station) (n : ℕ) (rows : List (List ℕ)) : Type 0 where
     pub calls : List finisher.Call
     pub track : Track p s n rows calls
@@ -104,10 +104,10 @@ module _ (p : Parts) (lawful : LawfulParts p) (Q : List finisher.Call → Statio
 abbrev pub nothing-more : List finisher.Call → Station → Type 0
 nothing-more l s = Unit {0}
 
-pub none-carried : (p : Parts) → Carried p nothing-more
+pub none-carried : (p : Making) → Carried p nothing-more
 none-carried p = record { at-start = tt; at-open = λ s n rows l t e. tt; at-step = λ s n rows l t row f h q. tt; at-close = λ s l q. tt }
 
-module _ (p : Parts) (lawful : LawfulParts p) where
+module _ (p : Making) (lawful : LawfulMaking p) where
   abbrev pub Following : Station → ℕ → List (List ℕ) → Type 0
   Following = Keeping p lawful nothing-more (none-carried p)
 

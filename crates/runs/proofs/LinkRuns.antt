@@ -15,7 +15,7 @@ use Rattle.plan.specs.Plans.{horizon, Falls, depthAsked}
 use Rattle.finisher.specs.Finishers.{Says, after, begins, classLimit}
 use Rattle.runs.specs.Model.{Setting, Station, Lane, isOpen, Call, opens, steps, closes, reads, balances, Answer, opened, stepped, closed, published, balance, refused, refusal, answerBy, stationBy, answer, next, emptyLane, noiseAt, afterOpen, afterRow, afterClose}
 use Rattle.runs.specs.Runs.{Joint, same, apart, first, second, Change, Sight, unseen, isApart, changeAt, sightAfter, shiftOf, shiftsAt, shifts, movedBy, MayDiffer, Agreed, difference, otherCount, answers, stationAfter, rowsTaken, epochAfter}
-use Rattle.runs.specs.Law.{Parts, LawfulParts, MadeAlike, Pair, make, firsts, seconds}
+use Rattle.runs.specs.Law.{Making, LawfulMaking, MadeAlike, Pair, make, firsts, seconds}
 use Rattle.runs.proofs.Facts.{open-facts, Steps, step-facts}
 use Rattle.runs.proofs.Sound.{Sound}
 use Rattle.runs.proofs.Track.{few-by, releases-fit}
@@ -84,7 +84,7 @@ close-linked s t v l =
 abbrev Moved : Station → Station → List ℤ → Type 0
 Moved s t rest = t .cells ≡ movedBy (s .cells) rest
 
-module _ (p : Parts) (lawful : LawfulParts p) (s t : Station) (v : Sight) (n : ℕ) (rows : List (List ℕ)) (f : Following p lawful s n rows) (l : Linked s t v) where
+module _ (p : Making) (lawful : LawfulMaking p) (s t : Station) (v : Sight) (n : ℕ) (rows : List (List ℕ)) (f : Following p lawful s n rows) (l : Linked s t v) where
   back-is : s .back ≡ p .back
   back-is = f .track .back
 
@@ -164,7 +164,7 @@ module _ (p : Parts) (lawful : LawfulParts p) (s t : Station) (v : Sight) (n : �
       let by = link-by j o rest refl d here in
       subst (λ (x : Option Told). Linked (next s (first j)) (stationBy x t (second j)) (sightAfter v j (answer s (first j))) × Moved (next s (first j)) (stationBy x t (second j)) rest) (sym (refusal-linked s t v l j d)) by
 
-module _ (p : Parts) (lawful : LawfulParts p) where
+module _ (p : Making) (lawful : LawfulMaking p) where
   -- all answers, from two stations that are linked
   answers-from : (js : List Joint) (s t : Station) (v : Sight) (n : ℕ) (rows : List (List ℕ)) → Following p lawful s n rows → Linked s t v → Agreed v js (answers s (firsts js)) → t .cells ≡ movedBy (s .cells) (shifts (p .back) (p .setting .classes) v js (answers s (firsts js))) → answers t (seconds js) ≡ answers s (firsts js)
   answers-from [] s t v n rows f l a m = refl
@@ -174,7 +174,7 @@ module _ (p : Parts) (lawful : LawfulParts p) where
       let more = answers-from js (next s (first j)) (next t (second j)) (sightAfter v j (answer s (first j))) _ _ (follow-by p lawful s n rows (first j) (refusal s (first j)) refl f) (by .0) ds (by .1) in
       cc
 
-  alike-made : (q : Parts) → MadeAlike p q → Linked (make p) (make q) unseen
+  alike-made : (q : Making) → MadeAlike p q → Linked (make p) (make q) unseen
   alike-made q a =
       record {
         setting = a .setting;
@@ -191,6 +191,6 @@ module _ (p : Parts) (lawful : LawfulParts p) where
         unused = λ _. refl;
       }
 
-pub same-answers : (p q : Parts) (js : List Joint) → Pair p q js → answers (make q) (seconds js) ≡ answers (make p) (firsts js)
+pub same-answers : (p q : Making) (js : List Joint) → Pair p q js → answers (make q) (seconds js) ≡ answers (make p) (firsts js)
 same-answers p q js r =
     answers-from p (r .lawful-first) js (make p) (make q) unseen 0 [] (follow-made p (r .lawful-first)) (alike-made p (r .lawful-first) q (r .alike)) (r .agreed) (r .moved)

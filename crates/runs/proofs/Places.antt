@@ -17,7 +17,7 @@ use Rattle.fault.specs.Told.{Told}
 use Rattle.plan.specs.Plans.{horizon, AgreeTo, holds, depthAsked}
 use Rattle.runs.specs.Model.{Setting, Station, Call, opens, steps, closes, reads, balances, Answer, opened, stepped, closed, published, balance, refused, firstTold, checks, refusal, accepted, answerBy, stationBy, answer, next, afterOpen, afterRow, afterClose, made}
 use Rattle.runs.specs.Runs.{Joint, first, Change, Sight, unseen, sightAfter, shiftOf, shiftsAt, shifts, movedBy, answers}
-use Rattle.runs.specs.Law.{Parts, LawfulParts, Pair, make, firsts, cellAt}
+use Rattle.runs.specs.Law.{Making, LawfulMaking, Pair, make, firsts, cellAt}
 use Rattle.runs.proofs.Facts.{le-or-gt, step-facts}
 use Rattle.runs.proofs.Sound.{Sound, sound-made, sound-next}
 use Rattle.runs.proofs.Track.{few-by}
@@ -194,7 +194,7 @@ place-one xs ys zs i n h =
     less-zero (getD ys i (pos 0)) ∙ (ap (λ (y : ℤ). getD ys i (pos 0) -ℤ y) (sym z) ∙ sym (moved-at ys zs i here)))
     (le-or-gt (length ys) i)
 
-pub same-places : (p q p′ q′ : Parts) (js : List Joint) → Pair p q js → Pair p′ q′ js → p .setting ≡ p′ .setting → AgreeTo horizon (p .back) (p′ .back) → length (p .cells) ≡ length (p′ .cells) → (position : ℕ) → (cellAt p position ≡ cellAt q position) ↔ (cellAt p′ position ≡ cellAt q′ position)
+pub same-places : (p q p′ q′ : Making) (js : List Joint) → Pair p q js → Pair p′ q′ js → p .setting ≡ p′ .setting → AgreeTo horizon (p .back) (p′ .back) → length (p .cells) ≡ length (p′ .cells) → (position : ℕ) → (cellAt p position ≡ cellAt q position) ↔ (cellAt p′ position ≡ cellAt q′ position)
 same-places p q p′ q′ js r r′ setting plan tape i =
     let level : Level (make p) (make p′) =
     record { setting = setting; plan = plan; tape = tape; spent = refl; held = refl; serial = refl; taken = refl; phase = refl } in

@@ -22,7 +22,7 @@ use Rattle.finisher.specs.Finishers.{Says, after}
 use Rattle.finisher.specs.Finishers as finisher
 use Rattle.runs.specs.Model.{Setting, Station, Lane, Phase, idle, running, isOpen, unitsOf, Call, opens, steps, closes, reads, balances, Answer, opened, stepped, closed, published, balance, refused, refusal, answerBy, stationBy, answer, next, noiseAt, advance, advanceAll, advanced, release, answersTo, publishAll, emptyLane, laneAt, afterOpen, afterRow, afterClose}
 use Rattle.runs.specs.Runs.{answers, stationAfter, rowsTaken, epochAfter, epochRows, trueCount}
-use Rattle.runs.specs.Law.{Parts, LawfulParts, make, cellAt, coverNoise, releaseOf, rowFinishes, finishesFor, finisherCalls, Published, SpendsDepth, answerTo}
+use Rattle.runs.specs.Law.{Making, LawfulMaking, make, cellAt, coverNoise, releaseOf, rowFinishes, finishesFor, finisherCalls, Published, SpendsDepth, answerTo}
 use Rattle.runs.proofs.Facts.{le-or-gt, Steps, step-facts, open-facts, close-facts}
 use Rattle.runs.proofs.Lanes.{AllFrom, all-from-both, all-from-weaker, publish-all, length-answers}
 use Rattle.runs.proofs.Noise.{noise-old, noise-new}
@@ -33,10 +33,10 @@ use Rattle.runs.proofs.Follow.{answers-push, station-push, answer-is, rows-tak
 use Rattle.runs.proofs.Accuracy.{stepped-by, read-by}
 
 -- each noise of a class is that of a cover
-abbrev Covered : Parts → ℕ → ℕ → Lane → Type 0
+abbrev Covered : Making → ℕ → ℕ → Lane → Type 0
 Covered p before class lane = (i : ℕ) → i ≤ length (lane .noise) → noiseAt (lane .noise) i ≡ coverNoise p before class (cover (p .back) i)
 
-new-covered : (p : Parts) (before class n : ℕ) → AllFrom (Covered p before) class (replicate n emptyLane)
+new-covered : (p : Making) (before class n : ℕ) → AllFrom (Covered p before) class (replicate n emptyLane)
 new-covered p before class zero = tt
 new-covered p before class (suc n) = (first-noise, new-covered p before (suc class) n)
   where
@@ -64,7 +64,7 @@ advance-cells P Q S back f class (lane ∷ lanes) (x ∷ row) (c ∷ cells) (h, 
     (f class lane x c h s, advance-cells P Q S back f (suc class) lanes row cells hs ss)
 
 -- one step more of a class
-module _ (p : Parts) (lawful : LawfulParts p) (before t : ℕ) (few : suc t ≤ horizon) where
+module _ (p : Making) (lawful : LawfulMaking p) (before t : ℕ) (few : suc t ≤ horizon) where
   covered-more : (class : ℕ) (lane : Lane) (x : ℕ) (cell : ℤ) → Covered p before class lane × (length (lane .noise) ≡ t) → cell ≡ cellAt p (p .setting .classes * (before + t) + class) → Covered p before class (advance (backAsked (p .back) (suc t)) lane x cell)
   covered-more class lane x cell (h, long) e i k =
       let noise = lane .noise in
@@ -112,12 +112,12 @@ release-at f class (lane ∷ lanes) zero h (a, as′) = a ∙ ap f (omega arith)
 release-at f class (lane ∷ lanes) (suc c) h (a, as′) = release-at f (suc class) lanes c (omega arith) as′ ∙ ap f (omega arith)
 
 -- a run so far, with the finisher's calls as the transcript has them
-record Exact (p : Parts) (s : Station) (n : ℕ) (rows : List (List ℕ)) (l : List finisher.Call) : Type 0 where
+record Exact (p : Making) (s : Station) (n : ℕ) (rows : List (List ℕ)) (l : List finisher.Call) : Type 0 where
   track : Track p s n rows l
   sound : Sound s
   covers : AllFrom (Covered p (n - length rows)) 0 (s .lanes)
 
-module _ (p : Parts) (lawful : LawfulParts p) where
+module _ (p : Making) (lawful : LawfulMaking p) where
   -- one row more
   module _ (s : Station) (n : ℕ) (rows : List (List ℕ)) (l : List finisher.Call) (x : Exact p s n rows l) (row : List ℕ) (f : Steps s row) where
     t : Track p s n rows l

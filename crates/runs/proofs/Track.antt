@@ -19,7 +19,7 @@ use Rattle.plan.proofs.Covers.{cover-length}
 use Rattle.finisher.specs.Finishers.{Call, begins, finishes, after, Says, Stands, Keeps, Lawful, LawfulCall, Within, classLimit, countLimit}
 use Rattle.runs.specs.Model.{Setting, Station, Lane, Phase, idle, running, isOpen, epochOf, noiseAt, advance, advanceAll, advanced, release, answersTo, saysAfter, publishAll, emptyLane, made, afterOpen, afterRow, afterClose}
 use Rattle.runs.specs.Runs.{trueCount}
-use Rattle.runs.specs.Law.{Parts, LawfulParts, make}
+use Rattle.runs.specs.Law.{Making, LawfulMaking, make}
 use Rattle.runs.proofs.Facts.{Opens, Steps}
 use Rattle.runs.proofs.Lanes.{AllFrom, AllCounts, all-from-weaker, all-from-both, advance-all, all-counts, every-cell, publish-all}
 use Rattle.runs.proofs.Sound.{Sound, PhaseSound, cells-taken, advanced-long}
@@ -27,10 +27,10 @@ use Rattle.runs.proofs.Noise.{NoiseBound, noise-none, noise-more, within-zero}
 use Rattle.runs.proofs.Standing.{finishesOf, lawful-finishes, Stand, Ready, stand-new, ready-next, stand-all, says-after}
 
 -- the cells of the last r of n rows
-abbrev pub rowCells : Parts → ℕ → ℕ → List ℤ
+abbrev pub rowCells : Making → ℕ → ℕ → List ℤ
 rowCells p n r = take (p .setting .classes * r) (drop (p .setting .classes * n - p .setting .classes * r) (p .cells))
 
-pub record Track (p : Parts) (s : Station) (n : ℕ) (rows : List (List ℕ)) (l : List Call) : Type 0 where
+pub record Track (p : Making) (s : Station) (n : ℕ) (rows : List (List ℕ)) (l : List Call) : Type 0 where
   pub setting : s .setting ≡ p .setting
   pub back : s .back ≡ p .back
   pub says : (m : List Call) → s .says m ≡ p .says (l ++ m)
@@ -87,7 +87,7 @@ release-fits p t lane few long c n =
     let w = within-zero (2 ^ 31 * length (cover p (length (lane .noise)))) (2 ^ 42) (noiseAt (lane .noise) (length (lane .noise))) e b in
     fits-within (release lane) (2 ^ 43) (omega arith) (omega (arith, ints, w .0, w .1), omega (arith, ints, w .0, w .1))
 
-pub track-made : (p : Parts) → Track p (make p) 0 [] []
+pub track-made : (p : Making) → Track p (make p) 0 [] []
 track-made p =
     record {
       setting = refl;
@@ -102,7 +102,7 @@ track-made p =
       noise = λ a _. new-all (λ _ lane. NoiseBound a (p .back) (lane .noise)) (λ _. noise-none a (p .back)) 0 (p .setting .classes);
     }
 
-module _ (p : Parts) (lawful-parts : LawfulParts p) (s : Station) (n : ℕ) (rows : List (List ℕ)) (l : List Call) (t : Track p s n rows l) where
+module _ (p : Making) (lawful-parts : LawfulMaking p) (s : Station) (n : ℕ) (rows : List (List ℕ)) (l : List Call) (t : Track p s n rows l) where
   pub track-open : (epoch : ℕ) → Track p (afterOpen s epoch) n [] (l ++ begins ∷ [])
   track-open epoch =
       record {
@@ -140,7 +140,7 @@ module _ (p : Parts) (lawful-parts : LawfulParts p) (s : Station) (n : ℕ) (row
         noise = t .noise;
       }
 
-pub narrow-rows : (p : Parts) → LawfulParts p → (m r : ℕ) → All (λ cell. Within (2 ^ 31) cell 0) (rowCells p m r)
+pub narrow-rows : (p : Making) → LawfulMaking p → (m r : ℕ) → All (λ cell. Within (2 ^ 31) cell 0) (rowCells p m r)
 narrow-rows p lawful-parts m r =
     all-take (λ cell. Within (2 ^ 31) cell 0) (p .setting .classes * r) _ (all-drop (λ cell. Within (2 ^ 31) cell 0) (p .setting .classes * m - p .setting .classes * r) (p .cells) (all-weaker (SFits w32) (λ cell. Within (2 ^ 31) cell 0) narrow-cell (p .cells) (lawful-parts .narrow)))
 
@@ -149,7 +149,7 @@ few-by back held taken idle h q = absurd (omega arith)
 few-by back held taken (running e u) h (a, b, c, d, f) = omega arith
 
 -- one row more
-module _ (p : Parts) (lawful-parts : LawfulParts p) (s : Station) (n : ℕ) (rows : List (List ℕ)) (l : List Call) (t : Track p s n rows l) (row : List ℕ) (f : Steps s row) (h : Sound s) where
+module _ (p : Making) (lawful-parts : LawfulMaking p) (s : Station) (n : ℕ) (rows : List (List ℕ)) (l : List Call) (t : Track p s n rows l) (row : List ℕ) (f : Steps s row) (h : Sound s) where
   same-classes : s .setting .classes ≡ p .setting .classes
   same-classes = classes p lawful-parts s n rows l t
 

@@ -19,7 +19,7 @@ use Rattle.plan.proofs.Parts.{holding-depth, depth-grows, holds-le}
 use Rattle.plan.proofs.Asked.{asked}
 use Rattle.runs.specs.Model.{Setting, Station, Phase, idle, running, isOpen, unitsOf, unitsSpent, Call, opens, steps, closes, reads, balances, Answer, opened, stepped, closed, published, balance, refused, refusal, answerBy, stationBy, answer, next, afterOpen, afterRow, afterClose}
 use Rattle.runs.specs.Runs.{Joint, same, apart, first, second, Change, Sight, unseen, isApart, changeAt, sightAfter, shiftOf, shiftsAt, shifts, movedBy, MayDiffer, Agreed, difference, answers, stationAfter}
-use Rattle.runs.specs.Law.{Parts, LawfulParts, sameCell, differing, firsts, make}
+use Rattle.runs.specs.Law.{Making, LawfulMaking, sameCell, differing, firsts, make}
 use Rattle.runs.proofs.Facts.{open-facts, close-facts, step-facts}
 use Rattle.runs.proofs.Sound.{Sound, PhaseSound}
 use Rattle.runs.proofs.Follow.{Following, follow-by}
@@ -161,7 +161,7 @@ unused-next v j (published count) u = u
 unused-next v j (balance grant spent held) u = u
 unused-next v j (refused told) u = λ h. u (or-false (v .used) (isApart j) h)
 
-module _ (p : Parts) (lawful : LawfulParts p) (s : Station) (v : Sight) (m n : ℕ) (rows : List (List ℕ)) (f : Following p lawful s n rows) (u : Unused v) where
+module _ (p : Making) (lawful : LawfulMaking p) (s : Station) (v : Sight) (m n : ℕ) (rows : List (List ℕ)) (f : Following p lawful s n rows) (u : Unused v) where
   sound-here : PhaseSound (p .back) (s .held) (s .steps) (s .phase)
   sound-here = subst (λ (b : ℕ → ℕ). PhaseSound b (s .held) (s .steps) (s .phase)) (f .track .back) (f .sound .phase-sound)
 
@@ -190,7 +190,7 @@ module _ (p : Parts) (lawful : LawfulParts p) (s : Station) (v : Sight) (m n : �
   spends-by (apart row class more) None e d q =
       spends-step m _ (p .back) (s .spent) (s .steps) (v .change) (Some (record { step = suc (s .steps); class = class; by = difference more })) (s .phase) (step-facts s row e .inside) (apart-moves (p .back) (v .change) (record { step = suc (s .steps); class = class; by = difference more }) (s .steps) (p .setting .classes) (u (d .1))) q
 
-module _ (p : Parts) (lawful : LawfulParts p) where
+module _ (p : Making) (lawful : LawfulMaking p) where
   -- the cells that calls move, on those moved before, are at most the units spent and held
   pub moved-within : (js : List Joint) (s : Station) (v : Sight) (m n : ℕ) (rows : List (List ℕ)) → Following p lawful s n rows → Unused v → Agreed v js (answers s (firsts js)) → Spends m (p .back) (s .spent) (s .steps) (v .change) (s .phase) → m + nonzero (shifts (p .back) (p .setting .classes) v js (answers s (firsts js))) ≤ stationAfter s (firsts js) .spent + stationAfter s (firsts js) .held
   moved-within [] s v m n rows f u a q =

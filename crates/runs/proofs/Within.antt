@@ -17,7 +17,7 @@ use Rattle.std.proofs.shelf.Lists.{take-map}
 use Rattle.std.proofs.shelf.Signed.{ints}
 use Rattle.runs.specs.Model.{Setting, Station, Call, balances, Answer, opened, stepped, closed, published, balance, refused, answer, next}
 use Rattle.runs.specs.Runs.{Joint, first, Change, Sight, unseen, sightAfter, shiftOf, shiftsAt, shifts, movedBy, MayDiffer, Agreed, answers, stationAfter, rowsTaken}
-use Rattle.runs.specs.Law.{Parts, LawfulParts, Pair, sameCell, differing, firsts, make, drawn, answerTo}
+use Rattle.runs.specs.Law.{Making, LawfulMaking, Pair, sameCell, differing, firsts, make, drawn, answerTo}
 use Rattle.runs.proofs.Follow.{follow, follow-made, answers-push, rows-taken-more}
 use Rattle.runs.proofs.Sound.{Sound}
 use Rattle.runs.proofs.Units.{nonzero, moved-within}
@@ -70,7 +70,7 @@ shifts-long back k change (published count) = sym (mul-zero k)
 shifts-long back k change (balance grant spent held) = sym (mul-zero k)
 shifts-long back k change (refused told) = sym (mul-zero k)
 
-module _ (p : Parts) (lawful : LawfulParts p) where
+module _ (p : Making) (lawful : LawfulMaking p) where
   abbrev K : ℕ
   K = p .setting .classes
 
@@ -93,7 +93,7 @@ module _ (p : Parts) (lawful : LawfulParts p) where
   agreed-front (suc n) [] s v a = tt
   agreed-front (suc n) (j ∷ js) s v (d, ds) = (d, agreed-front n js (next s (first j)) (sightAfter v j (answer s (first j))) ds)
 
-pub within-units : (p q : Parts) (js : List Joint) → Pair p q js → (n : ℕ)
+pub within-units : (p q : Making) (js : List Joint) → Pair p q js → (n : ℕ)
     → (spent : ℕ) × (held : ℕ) × answerTo p (take n (firsts js)) balances (balance (p .setting .grant) spent held)
     × (differing (drawn p (take n (firsts js))) (p .cells) (q .cells) ≤ spent + held)
     × (spent + held ≤ p .setting .grant)

@@ -9,10 +9,10 @@ use Rattle.finisher.specs.Finishers.{Says}
 use Rattle.finisher.specs.Kinds.{plain, noneHeld, rising}
 use Rattle.runs.specs.Model.{Setting, Call, opens, steps, closes, reads, balances, Answer, opened, stepped, closed, published, balance, refused, tell}
 use Rattle.runs.specs.Runs.{answers, Joint, same, apart}
-use Rattle.runs.specs.Law.{Parts, Pair, make}
+use Rattle.runs.specs.Law.{Making, Pair, make}
 
 -- one class, a grant of 5, the dyadic plan
-abbrev pub four : Says → Parts
+abbrev pub four : Says → Making
 four says =
     record {
       setting = record { number = 9; classes = 1; grant = 5 };
@@ -47,7 +47,7 @@ twoEpochs =
     same (opens 2) ∷ apart (3 ∷ []) 0 true ∷ same (steps (0 ∷ [])) ∷ same (reads 0) ∷ same (closes 9 1)
     ∷ same (opens 2) ∷ same (steps (1 ∷ [])) ∷ apart (2 ∷ []) 0 false ∷ same (closes 9 2) ∷ same balances ∷ []
 
-abbrev pub twice : List ℤ → Parts
+abbrev pub twice : List ℤ → Making
 twice cells =
     record {
       setting = record { number = 9; classes = 1; grant = 10 };

@@ -18,24 +18,24 @@ use Rattle.std.specs.Iters.{counting}
 use Rattle.runs.specs.Runs.{answers, rowsTaken, epochAfter, epochRows, trueCount, Joint, first, second, unseen, shifts, movedBy, Agreed}
 
 -- what a station is made from
-pub record Parts : Type 0 where
+pub record Making : Type 0 where
   pub setting : Setting
   pub back : ℕ → ℕ
   pub cells : List ℤ
   pub says : Says
 
 -- a setting that is not refused, and a plan and a tape that keep their meanings
-pub record LawfulParts (p : Parts) : Type 0 where
+pub record LawfulMaking (p : Making) : Type 0 where
   pub some : 1 ≤ p .setting .classes
   pub few : p .setting .classes ≤ 8
   pub falls : Falls (p .back)
   pub narrow : All (SFits w32) (p .cells)
 
-abbrev pub make : Parts → Station
+abbrev pub make : Making → Station
 make p = made (p .setting) (p .back) (p .cells) (p .says)
 
 -- made alike
-pub record MadeAlike (p q : Parts) : Type 0 where
+pub record MadeAlike (p q : Making) : Type 0 where
   pub setting : p .setting ≡ q .setting
   pub plan : AgreeTo horizon (p .back) (q .back)
   pub finisher : Alike (p .says) (q .says)
@@ -48,24 +48,24 @@ abbrev pub seconds : List Joint → List Call
 seconds js = map second js
 
 -- a station's answer to one call more, put after some calls
-abbrev pub answerTo : Parts → List Call → Call → Answer → Type 0
+abbrev pub answerTo : Making → List Call → Call → Answer → Type 0
 answerTo p calls call a = answers (make p) (calls ++ call ∷ []) ≡ answers (make p) calls ++ a ∷ []
 
 -- two stations made alike, with two lists of calls that agree but for one row an epoch, and with tapes that differ in
 -- the cells of that row's class whose parts hold its step, by one against the difference, and in no others
-pub record Pair (p q : Parts) (js : List Joint) : Type 0 where
-  pub lawful-first : LawfulParts p
-  pub lawful-second : LawfulParts q
+pub record Pair (p q : Making) (js : List Joint) : Type 0 where
+  pub lawful-first : LawfulMaking p
+  pub lawful-second : LawfulMaking q
   pub alike : MadeAlike p q
   pub agreed : Agreed unseen js (answers (make p) (firsts js))
   pub moved : q .cells ≡ movedBy (p .cells) (shifts (p .back) (p .setting .classes) unseen js (answers (make p) (firsts js)))
 
 -- the cells that a run has drawn
-abbrev pub drawn : Parts → List Call → ℕ
+abbrev pub drawn : Making → List Call → ℕ
 drawn p calls = p .setting .classes * rowsTaken (answers (make p) calls)
 
 -- the cell at a position of the tape, as it was at the making
-abbrev pub cellAt : Parts → ℕ → ℤ
+abbrev pub cellAt : Making → ℕ → ℤ
 cellAt p position = getD (p .cells) position (pos 0)
 
 abbrev pub sameCell : ℤ → ℤ → Bool
@@ -82,14 +82,14 @@ differing (suc n) (x ∷ one) [] = 0
 differing (suc n) [] other = 0
 
 -- the cells drawn in the newest epoch
-abbrev pub epochCells : Parts → List Call → List ℤ
+abbrev pub epochCells : Making → List Call → List ℤ
 epochCells p calls =
     let rows = length (epochRows [] calls (answers (make p) calls)) in
     take (p .setting .classes * rows) (drop (drawn p calls - p .setting .classes * rows) (p .cells))
 
 -- after an accepted step whose epoch has drawn only cells from -a to a, each class's published count lies within
 -- a times the breadth of its true count
-abbrev pub Accurate : Parts → Type 0
+abbrev pub Accurate : Making → Type 0
 Accurate p =
     (calls : List Call) (row : List ℕ) (step a class : ℕ)
     → answerTo p calls (steps row) (stepped step)
@@ -101,20 +101,20 @@ Accurate p =
 -- Each station by itself
 
 -- the noise of a class: the cells of the parts of a cover, in an epoch before which so many rows were drawn for
-abbrev pub coverNoise : Parts → ℕ → ℕ → List ℕ → ℤ
+abbrev pub coverNoise : Making → ℕ → ℕ → List ℕ → ℤ
 coverNoise p before class [] = pos 0
 coverNoise p before class (u ∷ us) = cellAt p (p .setting .classes * (before + (u - 1)) + class) +ℤ coverNoise p before class us
 
 -- a class's true count plus the noise of the cover of its newest step
-abbrev pub releaseOf : Parts → ℕ → List (List ℕ) → ℕ → ℤ
+abbrev pub releaseOf : Making → ℕ → List (List ℕ) → ℕ → ℤ
 releaseOf p before rows class = pos (trueCount class rows) +ℤ coverNoise p before class (cover (p .back) (length rows))
 
 -- the finisher's calls for the newest of an epoch's rows: one finish a class
-abbrev pub rowFinishes : Parts → ℕ → List (List ℕ) → List finisher.Call
+abbrev pub rowFinishes : Making → ℕ → List (List ℕ) → List finisher.Call
 rowFinishes p before rows = map (λ class. finisher.finishes class (releaseOf p before rows class)) (counting 0 (p .setting .classes))
 
 -- the finisher's calls for one answered call, after n rows in all, the epoch's being these
-abbrev pub finishesFor : Parts → ℕ → List (List ℕ) → Call → Answer → List finisher.Call
+abbrev pub finishesFor : Making → ℕ → List (List ℕ) → Call → Answer → List finisher.Call
 finishesFor p n rows call (opened number serial) = finisher.begins ∷ []
 finishesFor p n rows call (stepped step) = rowFinishes p (n - length rows) (epochAfter rows call (stepped step))
 finishesFor p n rows call (closed taken units) = []
@@ -122,7 +122,7 @@ finishesFor p n rows call (published count) = []
 finishesFor p n rows call (balance grant spent held) = []
 finishesFor p n rows call (refused told) = []
 
-abbrev pub finisherCalls : Parts → ℕ → List (List ℕ) → List Call → List Answer → List finisher.Call
+abbrev pub finisherCalls : Making → ℕ → List (List ℕ) → List Call → List Answer → List finisher.Call
 finisherCalls p n rows [] told = []
 finisherCalls p n rows (call ∷ calls) [] = []
 finisherCalls p n rows (call ∷ calls) (a ∷ rest) =
@@ -130,7 +130,7 @@ finisherCalls p n rows (call ∷ calls) (a ∷ rest) =
 
 -- after an accepted step a read answers what the finisher, as it was made, says to the true count plus the noise of the
 -- cover, after all begins and finishes before: those of the run so far, and of the earlier classes of this row
-abbrev pub Published : Parts → Type 0
+abbrev pub Published : Making → Type 0
 Published p =
     (calls : List Call) (row : List ℕ) (step class : ℕ)
     → answerTo p calls (steps row) (stepped step)
@@ -141,14 +141,15 @@ Published p =
     (published (p .says (finisherCalls p 0 [] calls (answers (make p) calls) ++ take class (rowFinishes p before (rows ++ row ∷ []))) class (releaseOf p before (rows ++ row ∷ []) class)))
 
 -- a close spends the depth of the steps taken
-abbrev pub SpendsDepth : Parts → Type 0
+abbrev pub SpendsDepth : Making → Type 0
 SpendsDepth p =
     (calls : List Call) (number serial taken units : ℕ)
     → answerTo p calls (closes number serial) (closed taken units)
     → (taken ≡ length (epochRows [] calls (answers (make p) calls))) × (units ≡ depth (p .back) taken)
 
 -- the law of every run
-pub record EachRun (p : Parts) : Type 0 where
+pub record EachRun (p : Making) : Type 0 where
+  pub lawful : LawfulMaking p
   pub published-counts : Published p
   pub spends-depth : SpendsDepth p
   pub accurate : Accurate p
@@ -157,20 +158,21 @@ pub record EachRun (p : Parts) : Type 0 where
 
 -- every answer is the same in both
 abbrev pub SameAnswers : Type 0
-SameAnswers = (p q : Parts) (js : List Joint) → Pair p q js → answers (make q) (seconds js) ≡ answers (make p) (firsts js)
+SameAnswers = (p q : Making) (js : List Joint) → Pair p q js → answers (make q) (seconds js) ≡ answers (make p) (firsts js)
 
 -- after each call the moved cells drawn so far are at most the units spent and held, and these at most the grant
 abbrev pub WithinUnits : Type 0
 WithinUnits =
-    (p q : Parts) (js : List Joint) → Pair p q js → (n : ℕ)
+    (p q : Making) (js : List Joint) → Pair p q js → (n : ℕ)
     → (spent : ℕ) × (held : ℕ) × answerTo p (take n (firsts js)) balances (balance (p .setting .grant) spent held)
     × (differing (drawn p (take n (firsts js))) (p .cells) (q .cells) ≤ spent + held)
     × (spent + held ≤ p .setting .grant)
 
--- pairs alike in setting, plan, calls and tape length have the same cells moved
+-- which cells are moved depends on setting, plan, both lists and tape length alone. (The joint list is the two lists:
+-- where rows differ they tell the class and the sign.)
 abbrev pub SamePlaces : Type 0
 SamePlaces =
-    (p q p′ q′ : Parts) (js : List Joint) → Pair p q js → Pair p′ q′ js
+    (p q p′ q′ : Making) (js : List Joint) → Pair p q js → Pair p′ q′ js
     → p .setting ≡ p′ .setting → AgreeTo horizon (p .back) (p′ .back) → length (p .cells) ≡ length (p′ .cells)
     → (position : ℕ) → (cellAt p position ≡ cellAt q position) ↔ (cellAt p′ position ≡ cellAt q′ position)
 

@@ -4,4 +4,4 @@ mod Refusing
 mod Rows
 mod Same
 mod Serving
-pub mod Worked
+mod Worked

@@ -1,6 +1,6 @@
 -- What a station's calls answer, as the model has it.
 use Prim.Native.Nat.{ℕ, _≤_, _<_}
-use mathlib.Core.Bool.{true, false, not, _&&_}
+use mathlib.Core.Bool.{true, false, cond, not, _&&_}
 use mathlib.Core.List.{List, [], _∷_}
 use mathlib.Core.Path.{_≡_}
 use lib.Dec.{leb, ltb}
@@ -10,15 +10,20 @@ use Rattle.std.specs.declared.option.Option.{Option}
 use Rattle.std.specs.declared.option.Option.the-variants.{Some, None}
 use Rattle.std.specs.declared.result.Result.{Result}
 use Rattle.std.specs.declared.result.Result.the-variants.{Ok, Err}
-use Rattle.account.specs.declared.Hold.{Hold}
 use Rattle.fault.specs.declared.Fault.{Fault}
 use Rattle.fault.specs.Told.{Told, told}
 use Rattle.fault.specs.declared.Cause.{Cause}
+use Rattle.fault.specs.declared.Cause.the-variants.{OutOfRange}
 use Rattle.fault.specs.declared.Layer.the-variants.{Station}
 use Rattle.runs.specs.Model as model
 use Rattle.runs.specs.Model.{tell, firstTold, isOpen, epochOf, firstOver}
 use Rattle.station.specs.declared.Balance.{Balance}
 use Rattle.station.specs.declared.Closed.{Closed}
+use Rattle.station.specs.declared.hold.Hold.{Hold}
+
+-- a refusal by the station
+abbrev pub stationFault : Cause → Fault
+stationFault cause = record { cause = cause; layer = Station }
 
 abbrev pub openedAs : Result Hold Fault → model.Answer
 openedAs (Ok hold) = model.opened (hold .station) (hold .serial)
@@ -49,6 +54,10 @@ abbrev pub refusedBy : {X : Type 0} → Result X Fault → Option Told
 refusedBy (Ok x) = None
 refusedBy (Err fault) = Some (told fault)
 
+-- 1 to 8 classes
+abbrev pub classCount : ℕ → Result ℕ Fault
+classCount classes = cond (leb 1 classes && leb classes 8) (Ok classes) (Err (stationFault (OutOfRange classes)))
+
 -- a setting has 1 to 8 classes and at most 1,000,000 units
 abbrev pub settingRefusal : model.Setting → Option Told
 settingRefusal s =
@@ -62,7 +71,3 @@ abbrev pub MayStep : model.Station → List ℕ → Type 0
 MayStep s row =
     (isOpen (s .phase) ≡ true) × (length row ≡ s .setting .classes) × (length row ≤ firstOver row) × (s .steps < epochOf (s .phase))
     × (s .setting .classes ≤ length (s .cells))
-
--- a refusal by the station
-abbrev pub stationFault : Cause → Fault
-stationFault cause = record { cause = cause; layer = Station }

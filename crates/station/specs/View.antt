@@ -4,7 +4,8 @@ use mathlib.Core.List.{List}
 use lib.IntN.{ℤ}
 use Rattle.finisher.specs.Finishers.{Says}
 use Rattle.runs.specs.Model as model
-use Rattle.runs.specs.Law.{Parts}
+use Rattle.runs.specs.Law.{Making}
+use Rattle.station.specs.declared.Lawful.{Lawful}
 use Rattle.station.specs.declared.Setting.{Setting}
 use Rattle.station.specs.declared.Station.{Station}
 use Rattle.station.specs.Lanes.{lanesOf}
@@ -13,9 +14,12 @@ use Rattle.station.specs.Phases.{phaseOf}
 abbrev pub settingOf : Setting → model.Setting
 settingOf s = record { number = s .number; classes = s .classes; grant = s .grant }
 
+abbrev pub lawfulOf : Lawful → model.Setting
+lawfulOf l = record { number = l .number; classes = l .classes; grant = l .account .grant }
+
 -- what a station is made from
-abbrev pub partsOf : model.Setting → (ℕ → ℕ) → List ℤ → Says → Parts
-partsOf setting back cells says = record { setting = setting; back = back; cells = cells; says = says }
+abbrev pub makingOf : model.Setting → (ℕ → ℕ) → List ℤ → Says → Making
+makingOf setting back cells says = record { setting = setting; back = back; cells = cells; says = says }
 
 -- by the meanings of its plan, its tape and its finisher
 abbrev pub viewOf : {P T F : Type 0} → (P → ℕ → ℕ) → (T → List ℤ) → (F → Says) → Station P T F → model.Station

@@ -4,26 +4,23 @@ ghost use mathlib.Core.Bool.{false, _&&_};
 ghost use mathlib.Core.Path.{_≡_};
 ghost use lib.Dec.{eqb};
 ghost use Rattle.std.specs.Results.{Cases, isOk};
-ghost use Rattle.std.specs.Vec.{made as given};
 ghost use Rattle.std.specs.declared.option.Option.the-variants.{Some};
 ghost use Rattle.fault.specs.Told.{told};
 ghost use Rattle.runs.specs.Model.{answer, next, refusal, made, afterRow, opens, steps as stepsBy, closes, reads, balances};
 ghost use Rattle.runs.specs.Law.{EachRun, PairedRuns};
 ghost use Rattle.station.specs.Examples.{WorkedExamples};
-ghost use Rattle.station.specs.Answers.{openedAs, steppedAs, closedAs, handedBack, readAs, balanceAs, refusedBy, settingRefusal, stationFault, MayOpen, MayStep};
-ghost use Rattle.station.specs.View.{partsOf, settingOf, viewOf};
+ghost use Rattle.station.specs.Answers.{openedAs, steppedAs, closedAs, handedBack, readAs, balanceAs, stationFault, MayOpen, MayStep};
+ghost use Rattle.station.specs.View.{lawfulOf, makingOf, viewOf};
 use crate::Balance;
 use crate::Closed;
+use crate::Lawful;
 use crate::Phase;
-use crate::Setting;
 use crate::Station;
+use crate::hold::Hold;
 use crate::row::draw_row;
 use crate::row::finish_row;
 use crate::row::first_over;
-use crate::table::CLASSES;
 use crate::table::Table;
-use account::Account;
-use account::Hold;
 use fault::Cause;
 use fault::Fault;
 use fault::Layer;
@@ -42,23 +39,21 @@ fn refuse(cause: Cause) -> Fault
     }
 }
 
-impl<P: Plan + Drop, T: Tape + Drop, F: Finisher + Drop> Station<P, T, F> {
-    /// A station that is idle; refused where the setting has not 1 to 8 classes, or grants more than 1,000,000 units.
-    /// What holds of every run of a station from here on, and of every two runs side by side, is stated here.
-    pub fn new(setting: Setting, plan: P, tape: T, finisher: F) -> Result<Self, Fault>
-        ensures lawful { λ r. ⌜ refusedBy r ≡ settingRefusal (settingOf setting) ⌝ }
-        ensures made { λ r. ⌜ given r (λ s. viewOf (P·Plan .back) (T·Tape .cells) (F·Finisher .says) s ≡ made (settingOf setting) (P·Plan .back plan) (T·Tape .cells tape) (F·Finisher .says finisher)) ⌝ }
-        ensures each_run { λ r. ⌜ given r (λ _. EachRun (partsOf (settingOf setting) (P·Plan .back plan) (T·Tape .cells tape) (F·Finisher .says finisher))) ⌝ }
+impl<P: Plan, T: Tape, F: Finisher> Station<P, T, F> {
+    /// A station that is idle. What holds of its every run from here on, and of every two runs side by side, is said here.
+    pub fn new(setting: Lawful, plan: P, tape: T, finisher: F) -> Self
+        ensures each_run { λ _. ⌜ EachRun (makingOf (lawfulOf setting) (P·Plan .back plan) (T·Tape .cells tape) (F·Finisher .says finisher)) ⌝ }
         ensures paired_runs { λ _. ⌜ PairedRuns ⌝ }
         ensures examples { λ _. ⌜ WorkedExamples ⌝ }
+        ensures made { λ r. ⌜ viewOf (P·Plan .back) (T·Tape .cells) (F·Finisher .says) r ≡ made (lawfulOf setting) (P·Plan .back plan) (T·Tape .cells tape) (F·Finisher .says finisher) ⌝ }
     {
-        let classes = setting.classes as usize;
-        if classes < 1 || classes > CLASSES {
-            return Err(refuse(Cause::OutOfRange(setting.classes as u32)));
-        }
-        let account = Account::new(setting.grant)?;
-        Ok(Station {
-            number: setting.number,
+        let Lawful {
+            number,
+            classes,
+            account,
+        } = setting;
+        Station {
+            number,
             plan,
             tape,
             finisher,
@@ -66,11 +61,9 @@ impl<P: Plan + Drop, T: Tape + Drop, F: Finisher + Drop> Station<P, T, F> {
             serial: 0,
             phase: Phase::Idle,
             table: Table::new(classes),
-        })
+        }
     }
-}
 
-impl<P: Plan, T: Tape, F: Finisher> Station<P, T, F> {
     /// Opens an epoch of `horizon` steps, and answers the hold on it.
     pub fn open(&mut self, horizon: u16) -> Result<Hold, Fault>
         ensures answer { λ r. ⌜ openedAs r ≡ answer (viewOf (P·Plan .back) (T·Tape .cells) (F·Finisher .says) (now (self .entry))) (opens horizon) ⌝ }

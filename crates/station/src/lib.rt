@@ -1,14 +1,19 @@
 //! A station: it counts boot outcomes by class, and publishes the counts with noise that its plan adds up from the
 //! cells of a tape.
 
+ghost use mathlib.Core.Path.{_≡_};
 ghost use Prim.Native.Nat.{_≤_};
 ghost use Rattle.station.specs.Phases.{horizonIn, unitsIn};
 use account::Account;
 use table::Table;
 
 mod calls;
+mod hold;
+mod making;
 mod row;
 mod table;
+
+pub use hold::Hold;
 
 /// What a station is made with: its number, its number of classes and the units that it is granted.
 #[derive(Clone, Copy, Debug)]
@@ -16,6 +21,16 @@ pub struct Setting {
     pub number: u32,
     pub classes: u16,
     pub grant: u32,
+}
+
+/// A setting that is lawful: it has 1 to 8 classes, and at most 1,000,000 units, of which none is spent or held.
+#[derive(Drop)]
+pub struct Lawful {
+    number: u32,
+    classes: usize,
+    account: Account,
+    ghost some: { (1 ≤ classes) × (classes ≤ 8) },
+    ghost fresh: { (account .spent ≡ 0) × (account .held ≡ 0) },
 }
 
 /// What a close answers: the steps taken and the units spent.
