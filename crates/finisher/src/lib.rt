@@ -96,7 +96,7 @@ pub impl<F: Finisher> Finisher for Rising<F> as RisingFinisher {
     }
 }
 
-/// Answers the greater of 0 and the answer from below.
+/// Lifts negative answers from below to 0.
 #[derive(Drop)]
 pub struct Floor<F>(F);
 

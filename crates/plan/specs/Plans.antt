@@ -1,4 +1,5 @@
--- A plan gives for each step t from 1 to the horizon a back step p t, below t. Part t is the steps p t + 1 to t.
+-- A plan names an earlier point for every step t up to the horizon, its back step p t, which is below t. The steps
+-- after p t and up to t are part t.
 -- The cover of t is the parts that together hold the steps 1 to t: part t, and the cover of p t.
 use mathlib.Core.Bool.{cond}
 use mathlib.Core.List.{List, [], _∷_}
@@ -49,11 +50,11 @@ coverIn p (suc n) (suc t) = suc t ∷ coverIn p n (p (suc t))
 unfoldable pub cover : (ℕ → ℕ) → ℕ → List ℕ
 cover p t = coverIn p t t
 
--- how deep the parts 1 to k lie on one another: the greatest number of them that hold one and the same step
+-- how deep the parts 1 to k lie over one another: how many of them hold the step that most of them hold
 unfoldable pub depth : (ℕ → ℕ) → ℕ → ℕ
 depth p k = greatest (holding p k) k
 
--- how many parts a cover takes side by side: the greatest number of them in the cover of any t from 1 to k
+-- how many parts lie side by side in the longest cover among the steps up to k
 unfoldable pub breadth : (ℕ → ℕ) → ℕ → ℕ
 breadth p k = greatest (λ t. length (cover p t)) k
 

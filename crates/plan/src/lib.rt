@@ -32,11 +32,11 @@ pub trait Plan {
     fn back_step(&self, t: u16) -> u16
         ensures { λ r. ⌜ r ≡ backAsked (back (now (self .entry))) t ⌝ };
 
-    /// The greatest number of the parts 1 to `k` that hold one and the same step; 0 beyond the horizon.
+    /// How many of the parts 1 to `k` lie over one another at the worst step; 0 beyond the horizon.
     fn depth(&self, k: u16) -> u16
         ensures { λ r. ⌜ r ≡ depthAsked (back (now (self .entry))) k ⌝ };
 
-    /// The greatest number of parts in the cover of any step from 1 to `k`; 0 beyond the horizon.
+    /// How many parts the longest cover has among the steps up to `k`; 0 beyond the horizon.
     fn breadth(&self, k: u16) -> u16
         ensures { λ r. ⌜ r ≡ breadthAsked (back (now (self .entry))) k ⌝ };
 }

@@ -11,7 +11,7 @@ use borrow.Author.Needs.{needs}
 use Rattle.std.proofs.shelf.Lists.{drop-drop, take-rest}
 use Rattle.std.proofs.shelf.Ways.{tells}
 use Rattle.record.specs.Little.{field}
-use Rattle.record.specs.Reads.{decode, announced, answerTo, restAfter}
+use Rattle.record.specs.Reads.{decode, announced, answerTo, bodyIn, restAfter}
 
 module _ (bs : List ℕ) (n k : ℕ) (h : 4 ≤ length bs) (e : n ≡ field 0 2 bs) (f : k ≡ field 2 2 bs) (l : n ≤ length bs - 4) where
   some : eqb (length bs) 0 ≡ false
@@ -32,3 +32,6 @@ module _ (bs : List ℕ) (n k : ℕ) (h : 4 ≤ length bs) (e : n ≡ field 0 2 
 
   pub rest-cut : restAfter bs ≡ take (length (take (length bs - 4) (drop 4 bs)) - n) (drop n (take (length bs - 4) (drop 4 bs)))
   rest-cut = rw (take-rest bs 4, take-rest) rest-whole
+
+  pub body-cut : take (n - 0) (take (length bs - 4) (drop 4 bs)) ≡ bodyIn bs
+  body-cut = rw (take-rest, sub-zero, e)

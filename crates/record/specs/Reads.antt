@@ -43,11 +43,15 @@ decode kind b =
 abbrev pub announced : List ℕ → ℕ
 announced bs = 4 + field 0 2 bs
 
+-- the body that they announce
+abbrev pub bodyIn : List ℕ → List ℕ
+bodyIn bs = take (field 0 2 bs) (drop 4 bs)
+
 -- the first record
 abbrev pub answerTo : List ℕ → Answer
 answerTo bs =
     cond (eqb (length bs) 0) nothing
-    (cond (leb (announced bs) (length bs)) (decode (field 2 2 bs) (take (field 0 2 bs) (drop 4 bs)))
+    (cond (leb (announced bs) (length bs)) (decode (field 2 2 bs) (bodyIn bs))
     (refusal 16 (length bs)))
 
 -- the bytes that follow it; those of a record that is cut short stay

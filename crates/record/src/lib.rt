@@ -1,5 +1,5 @@
 //! Records: everything that enters or leaves the product is one of nine kinds of them.
-//! A record is two bytes of body length, two bytes of kind, then the body; numbers are little-endian.
+//! Four bytes of header announce the body's length and the kind, two bytes each; the lowest byte of a number comes first.
 
 mod fields;
 mod kinds;

@@ -5,8 +5,8 @@ ghost use mathlib.Core.List.{_++_};
 ghost use Prim.Native.Nat.{_<_};
 ghost use lib.ListN.{length as size};
 ghost use Rattle.record.specs.Kinds.{Entry, bytesOf};
-ghost use Rattle.record.specs.Seen.{seen};
-ghost use Rattle.record.specs.Reads.{answerTo, decode, fewCounts, found, refusal, restAfter};
+ghost use Rattle.record.specs.Seen.{borrows, seen};
+ghost use Rattle.record.specs.Reads.{answerTo, bodyIn, decode, fewCounts, found, refusal, restAfter};
 use crate::fields::u16_at;
 use crate::fields::u32_at;
 use crate::kinds::Record;
@@ -29,6 +29,7 @@ pub enum Reading<'a> {
 pub fn read_record(bytes: &[u8]) -> (Reading<'_>, &[u8])
     ensures value { λ r. ⌜ seen (r .0) ≡ answerTo (now (bytes .entry)) ⌝ }
     ensures rest { λ r. ⌜ now (r .1) ≡ restAfter (now (bytes .entry)) ⌝ }
+    ensures borrowed { λ r. ⌜ borrows (r .0) (bodyIn (now (bytes .entry))) ⌝ }
     ensures same_bytes { λ r. ⌜ ((e : Entry) → seen (r .0) ≡ found e → bytesOf e ++ now (r .1) ≡ now (bytes .entry)) ⌝ }
 {
     match bytes {
@@ -46,7 +47,8 @@ pub fn read_record(bytes: &[u8]) -> (Reading<'_>, &[u8])
 }
 
 fn cut_short<'a>(bytes: &[u8]) -> Reading<'a>
-    ensures { λ r. ⌜ seen r ≡ refusal 16 (size (now (bytes .entry))) ⌝ }
+    ensures value { λ r. ⌜ seen r ≡ refusal 16 (size (now (bytes .entry))) ⌝ }
+    ensures borrowed { λ r. ⌜ borrows r (bodyIn (now (bytes .entry))) ⌝ }
 {
     Reading::Faulty(Fault {
         cause: Cause::CutShort(bytes.len()),
@@ -56,7 +58,8 @@ fn cut_short<'a>(bytes: &[u8]) -> Reading<'a>
 
 /// The record of this kind with this body.
 fn unpack(kind: u16, body: &[u8]) -> Reading<'_>
-    ensures { λ r. ⌜ seen r ≡ decode kind (now (body .entry)) ⌝ }
+    ensures value { λ r. ⌜ seen r ≡ decode kind (now (body .entry)) ⌝ }
+    ensures borrowed { λ r. ⌜ borrows r (now (body .entry)) ⌝ }
 {
     match kind {
         1 => unpack_set_up(body),
@@ -76,7 +79,8 @@ fn unpack(kind: u16, body: &[u8]) -> Reading<'_>
 }
 
 fn unfit<'a>(body: &[u8]) -> Reading<'a>
-    ensures { λ r. ⌜ seen r ≡ refusal 18 (size (now (body .entry))) ⌝ }
+    ensures value { λ r. ⌜ seen r ≡ refusal 18 (size (now (body .entry))) ⌝ }
+    ensures borrowed { λ r. ⌜ borrows r (now (body .entry)) ⌝ }
 {
     Reading::Faulty(Fault {
         cause: Cause::LengthUnfit(body.len()),
@@ -85,7 +89,8 @@ fn unfit<'a>(body: &[u8]) -> Reading<'a>
 }
 
 fn unpack_set_up(body: &[u8]) -> Reading<'_>
-    ensures { λ r. ⌜ seen r ≡ decode 1 (now (body .entry)) ⌝ }
+    ensures value { λ r. ⌜ seen r ≡ decode 1 (now (body .entry)) ⌝ }
+    ensures borrowed { λ r. ⌜ borrows r (now (body .entry)) ⌝ }
 {
     if body.len() != 12 {
         return unfit(body);
@@ -103,7 +108,8 @@ fn unpack_set_up(body: &[u8]) -> Reading<'_>
 }
 
 fn unpack_open(body: &[u8]) -> Reading<'_>
-    ensures { λ r. ⌜ seen r ≡ decode 2 (now (body .entry)) ⌝ }
+    ensures value { λ r. ⌜ seen r ≡ decode 2 (now (body .entry)) ⌝ }
+    ensures borrowed { λ r. ⌜ borrows r (now (body .entry)) ⌝ }
 {
     if body.len() != 2 {
         return unfit(body);
@@ -114,7 +120,8 @@ fn unpack_open(body: &[u8]) -> Reading<'_>
 }
 
 fn unpack_step(body: &[u8]) -> Reading<'_>
-    ensures { λ r. ⌜ seen r ≡ decode 3 (now (body .entry)) ⌝ }
+    ensures value { λ r. ⌜ seen r ≡ decode 3 (now (body .entry)) ⌝ }
+    ensures borrowed { λ r. ⌜ borrows r (now (body .entry)) ⌝ }
 {
     if !few_counts(2, body.len()) {
         return unfit(body);
@@ -125,7 +132,8 @@ fn unpack_step(body: &[u8]) -> Reading<'_>
 }
 
 fn unpack_close(body: &[u8]) -> Reading<'_>
-    ensures { λ r. ⌜ seen r ≡ decode 4 (now (body .entry)) ⌝ }
+    ensures value { λ r. ⌜ seen r ≡ decode 4 (now (body .entry)) ⌝ }
+    ensures borrowed { λ r. ⌜ borrows r (now (body .entry)) ⌝ }
 {
     if !body.is_empty() {
         return unfit(body);
@@ -134,7 +142,8 @@ fn unpack_close(body: &[u8]) -> Reading<'_>
 }
 
 fn unpack_opened(body: &[u8]) -> Reading<'_>
-    ensures { λ r. ⌜ seen r ≡ decode 33 (now (body .entry)) ⌝ }
+    ensures value { λ r. ⌜ seen r ≡ decode 33 (now (body .entry)) ⌝ }
+    ensures borrowed { λ r. ⌜ borrows r (now (body .entry)) ⌝ }
 {
     if body.len() != 10 {
         return unfit(body);
@@ -150,7 +159,8 @@ fn unpack_opened(body: &[u8]) -> Reading<'_>
 }
 
 fn unpack_published(body: &[u8]) -> Reading<'_>
-    ensures { λ r. ⌜ seen r ≡ decode 34 (now (body .entry)) ⌝ }
+    ensures value { λ r. ⌜ seen r ≡ decode 34 (now (body .entry)) ⌝ }
+    ensures borrowed { λ r. ⌜ borrows r (now (body .entry)) ⌝ }
 {
     if body.len() < 6 || !few_counts(8, body.len() - 6) {
         return unfit(body);
@@ -165,7 +175,8 @@ fn unpack_published(body: &[u8]) -> Reading<'_>
 }
 
 fn unpack_closed(body: &[u8]) -> Reading<'_>
-    ensures { λ r. ⌜ seen r ≡ decode 35 (now (body .entry)) ⌝ }
+    ensures value { λ r. ⌜ seen r ≡ decode 35 (now (body .entry)) ⌝ }
+    ensures borrowed { λ r. ⌜ borrows r (now (body .entry)) ⌝ }
 {
     if body.len() != 10 {
         return unfit(body);
@@ -181,7 +192,8 @@ fn unpack_closed(body: &[u8]) -> Reading<'_>
 }
 
 fn unpack_refused(body: &[u8]) -> Reading<'_>
-    ensures { λ r. ⌜ seen r ≡ decode 36 (now (body .entry)) ⌝ }
+    ensures value { λ r. ⌜ seen r ≡ decode 36 (now (body .entry)) ⌝ }
+    ensures borrowed { λ r. ⌜ borrows r (now (body .entry)) ⌝ }
 {
     if body.len() != 12 {
         return unfit(body);
@@ -199,7 +211,8 @@ fn unpack_refused(body: &[u8]) -> Reading<'_>
 }
 
 fn unpack_end(body: &[u8]) -> Reading<'_>
-    ensures { λ r. ⌜ seen r ≡ decode 37 (now (body .entry)) ⌝ }
+    ensures value { λ r. ⌜ seen r ≡ decode 37 (now (body .entry)) ⌝ }
+    ensures borrowed { λ r. ⌜ borrows r (now (body .entry)) ⌝ }
 {
     if body.len() != 4 {
         return unfit(body);

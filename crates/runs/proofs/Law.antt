@@ -10,7 +10,9 @@ use Rattle.runs.proofs.Places.{same-places}
 -- of every station whose finisher keeps its meaning
 pub each-run : (p : Making) → LawfulMaking p → (stands : Stands) → Keeps (p .says) stands → EachRun p
 each-run p lawful stands keeps =
-    record { lawful = lawful; published-counts = published-counts p lawful;
+    record {
+      lawful = lawful;
+      published-counts = published-counts p lawful;
       spends-depth = spends-depth p lawful;
       accurate = accurate p lawful stands keeps;
     }

@@ -87,8 +87,8 @@ epochCells p calls =
     let rows = length (epochRows [] calls (answers (make p) calls)) in
     take (p .setting .classes * rows) (drop (drawn p calls - p .setting .classes * rows) (p .cells))
 
--- after an accepted step whose epoch has drawn only cells from -a to a, each class's published count lies within
--- a times the breadth of its true count
+-- as long as an epoch has met no cell beyond a bound, what is published misses the true count by that bound for each part
+-- of the longest cover at most
 abbrev pub Accurate : Making → Type 0
 Accurate p =
     (calls : List Call) (row : List ℕ) (step a class : ℕ)
@@ -160,7 +160,8 @@ pub record EachRun (p : Making) : Type 0 where
 abbrev pub SameAnswers : Type 0
 SameAnswers = (p q : Making) (js : List Joint) → Pair p q js → answers (make q) (seconds js) ≡ answers (make p) (firsts js)
 
--- after each call the moved cells drawn so far are at most the units spent and held, and these at most the grant
+-- at any time a balance would show as many units spent and held as moved cells were drawn, or more, and no more than were
+-- granted
 abbrev pub WithinUnits : Type 0
 WithinUnits =
     (p q : Making) (js : List Joint) → Pair p q js → (n : ℕ)

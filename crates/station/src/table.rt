@@ -1,4 +1,4 @@
-//! The classes of a station, each with its true count, its noise by step and its published count.
+//! The classes of a station: what each has counted, its noise at every step, and what was published last.
 
 ghost use mathlib.Core.Path.{_≡_};
 ghost use Prim.Native.Nat.{ℕ, _+_, _<_, _≤_};

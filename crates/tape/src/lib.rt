@@ -39,7 +39,7 @@ const SHORT: Fault = Fault {
     layer: Layer::Tape,
 };
 
-/// The caller's bytes in fours, each a little-endian two's complement cell.
+/// Four bytes make a cell, the lowest first, negative ones in two's complement.
 #[derive(Drop)]
 pub struct ByteTape<'a> {
     bytes: &'a [u8],
