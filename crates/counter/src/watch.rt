@@ -49,7 +49,7 @@ pub struct Watch<T> {
 impl<T: Tape + Drop> Watch<T> {
     /// A watch over a new station on the first of two tapes with the same cells; refused where the setting is.
     /// The set-up is its first event.
-    pub fn new(setting: Setting, plan: Chosen, tape: T, same: T) -> Result<Self, Fault> {
+    pub(crate) fn new(setting: Setting, plan: Chosen, tape: T, same: T) -> Result<Self, Fault> {
         let classes = setting.classes as usize;
         let station = Station::new(setting.lawful()?, plan, tape, Rising::new(Plain));
         Ok(Watch {
@@ -68,7 +68,7 @@ impl<T: Tape + Drop> Watch<T> {
     }
 
     /// Takes an event.
-    pub fn take(&mut self, rt: &impl Print, event: &Reading<'_>) -> io::Result<()> {
+    pub(crate) fn take(&mut self, rt: &impl Print, event: &Reading<'_>) -> io::Result<()> {
         self.totals.events = self.totals.events.saturating_add(1);
         let number = self.totals.events;
         print!(rt, "{number:>3}  ")?;
@@ -156,7 +156,7 @@ impl<T: Tape + Drop> Watch<T> {
     }
 
     /// Closes an epoch that is still open, and tells the totals.
-    pub fn end(self, rt: &impl Print) -> io::Result<()> {
+    pub(crate) fn end(self, rt: &impl Print) -> io::Result<()> {
         let Watch {
             plan: _,
             classes: _,
