@@ -1,5 +1,7 @@
 //! Accounts of units.
 
+#![tactic(auto)]
+
 ghost use Rattle.std.specs.Prelude.{◌≡◌, ◌+◌, ◌-◌, ◌≤◌, false, is_ok, MatchResult, nat_le};
 ghost use Rattle.account.specs.Accounts.{grant_limit, grant_refused, holding, held_after, held_settled, spent_settled};
 

@@ -1,6 +1,8 @@
 //! How far an epoch's published counts can lie from its true ones: the size of the largest cell drawn, times the breadth
 //! of the step.
 
+#![tactic(auto)]
+
 ghost use Rattle.std.specs.Prelude.{◌≡◌, ◌*◌, List, ◌++◌, take, drop, ℤ};
 ghost use Rattle.plan.specs.Plans.{breadth_asked};
 ghost use Rattle.bounds.specs.Sizes.{greatest, AllWithin};

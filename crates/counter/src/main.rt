@@ -2,6 +2,8 @@
 //! close. The tape is the file tape.bin, and is empty where there is no such file. Each event has a line: a step's has
 //! the published counts, and how far they can lie from the true ones.
 
+#![tactic(auto)]
+
 use anyhow::anyhow;
 use fault::Fault;
 use input::{read_all, read_tape};

@@ -1,5 +1,7 @@
 //! A fault: why a call was refused, by which layer, and at which place.
 
+#![tactic(auto)]
+
 ghost use Rattle.std.specs.Prelude.{◌≡◌};
 ghost use Rattle.fault.specs.Told.{number_of, layer_of, place_of};
 

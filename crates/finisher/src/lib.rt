@@ -1,5 +1,7 @@
 //! Finishers: how a release becomes a published count.
 
+#![tactic(auto)]
+
 ghost use Rattle.std.specs.Prelude.{◌≡◌, ◌<◌, ◌≤◌};
 ghost use Rattle.finisher.specs.Finishers.{class_limit, begins, finishes, Says, after, finished, Stands, Same, Keeps};
 ghost use Rattle.finisher.specs.Kinds.{plain, everywhere, none_held, rising, held_near, floored, rising_says, rising_stands, floor_says, floor_stands};

@@ -1,5 +1,7 @@
 //! Publishing for programs in C: byte buffers as a pointer and a length each, and plain numbers.
 
+#![tactic(auto)]
+
 ghost use Rattle.std.specs.Prelude.{◌≡◌, length};
 ghost use Rattle.publishing.specs.Publishing.{output_with};
 ghost use Rattle.gateway.specs.Numbers.{bytes_written};

@@ -1,5 +1,7 @@
 //! What the programs read.
 
+#![tactic(auto)]
+
 ghost use Rattle.std.specs.Prelude.{◌+◌, ◌≤◌, length, IfOk, vec_len};
 
 use std::alloc::Global;

@@ -1,5 +1,7 @@
 //! Lists the records of standard input.
 
+#![tactic(auto)]
+
 use input::read_all;
 use listing::list;
 

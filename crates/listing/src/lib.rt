@@ -1,5 +1,7 @@
 //! Record after record, a line each.
 
+#![tactic(auto)]
+
 ghost use Rattle.std.specs.Prelude.{◌≡◌, ◌+◌, ◌^◌, ◌<◌, IfOk};
 ghost use Rattle.record.specs.Seen.{seen};
 ghost use Rattle.listing.specs.Totals.{counted, goes_on, plus, totals};

@@ -2,6 +2,8 @@
 //! back step, up to itself; its cover is that part and the cover of the back step, so that the parts of a cover lie
 //! side by side from step 1 on.
 
+#![tactic(auto)]
+
 ghost use Rattle.std.specs.Prelude.{◌≡◌, ℕ, ◌≤◌, take};
 ghost use Rattle.plan.specs.Plans.{horizon, Falls, back_asked, depth_asked, breadth_asked, cover_asked};
 ghost use Rattle.plan.specs.Known.{single, dyadic};

@@ -1,6 +1,8 @@
 //! Shows what a plan costs and how its noise runs, before an epoch is opened. The words are the plan's number and the
 //! horizon; a single word is the horizon, and the plan then the default one. Standard input is the tape.
 
+#![tactic(auto)]
+
 ghost use Rattle.std.specs.Prelude.{◌≤◌, IfOk};
 ghost use Rattle.plan.specs.Plans.{horizon};
 

@@ -1,5 +1,7 @@
 //! Publications: records one after the other in an output of the caller's, the end record last.
 
+#![tactic(auto)]
+
 mod event;
 mod work;
 

@@ -1,6 +1,8 @@
 //! The publisher: events on standard input and the tape in the file tape.bin, which may be missing; the publication on
 //! standard output.
 
+#![tactic(auto)]
+
 use anyhow::anyhow;
 use input::{read_all, read_tape};
 use publishing::publish;

@@ -1,5 +1,7 @@
 //! Publishing: events and a filled tape in, a publication out.
 
+#![tactic(auto)]
+
 ghost use Rattle.std.specs.Prelude.{◌≡◌, ◌≤◌, length, IfOk};
 ghost use Rattle.fault.specs.Told.{answered};
 ghost use Rattle.publishing.specs.Examples.{WorkedPublication};

@@ -1,6 +1,8 @@
 //! Records: everything that enters or leaves the product is one of nine kinds of them.
 //! Four bytes of header announce the body's length and the kind, two bytes each; the lowest byte of a number comes first.
 
+#![tactic(auto)]
+
 mod fields;
 mod kinds;
 mod reader;

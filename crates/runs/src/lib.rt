@@ -1,6 +1,8 @@
 //! What a station answers to any list of calls, and the law of every two runs side by side. There is no code here to
 //! run: the station's contracts cite these definitions, and the functions below ask the prover for what holds of them.
 
+#![tactic(auto)]
+
 ghost use Rattle.runs.specs.Law.{PairedRuns};
 ghost use Rattle.runs.specs.Examples.{WorkedPair, WorkedRun};
 

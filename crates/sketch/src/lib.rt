@@ -1,5 +1,7 @@
 //! Sketches of an epoch's noise, drawn from a tape before the epoch is opened.
 
+#![tactic(auto)]
+
 ghost use Rattle.std.specs.Prelude.{◌≡◌, ◌+◌, ◌^◌, ◌<◌, ◌≤◌, min, length, take, drop, slice_set};
 ghost use Rattle.std.specs.Int.Signed.{mag};
 ghost use Rattle.plan.specs.Plans.{horizon};

@@ -1,6 +1,8 @@
 //! A station: it counts boot outcomes by class, and publishes the counts with noise that its plan adds up from the
 //! cells of a tape.
 
+#![tactic(auto)]
+
 ghost use Rattle.std.specs.Prelude.{◌≡◌, ◌≤◌};
 ghost use Rattle.station.specs.Phases.{horizon_in, units_in};
 

@@ -1,5 +1,7 @@
 //! Tapes: where the cells of noise come from.
 
+#![tactic(auto)]
+
 ghost use Rattle.std.specs.Prelude.{◌≡◌, List, [], length, ℤ, FitsSigned, slice_index};
 ghost use Rattle.std.specs.Int.{w32};
 ghost use Rattle.std.specs.List.{AllByRecursion as All};

@@ -1,5 +1,7 @@
 //! Faults and records as text, for people to read.
 
+#![tactic(auto)]
+
 mod faults;
 mod records;
 
