@@ -34,9 +34,9 @@ impl Bound {
 
     /// Draws so many cells, or as many as are left. Where the bound covered the cells before, it covers these too.
     pub fn draw<T: Tape>(&mut self, tape: &mut T, count: usize)
-        ensures largest { self.new.largest ≡ greatest self.old.largest (take count (T.Tape.cells tape.old)) }
-        ensures tape { T.Tape.cells tape.new ≡ drop count (T.Tape.cells tape.old) }
-        ensures covers { (before : List ℤ) → AllWithin self.old.largest before → AllWithin self.new.largest (before ++ take count (T.Tape.cells tape.old)) }
+        ensures largest { self.new.largest ≡ greatest self.old.largest (take count (T.cells tape.old)) }
+        ensures tape { T.cells tape.new ≡ drop count (T.cells tape.old) }
+        ensures covers { (before : List ℤ) → AllWithin self.old.largest before → AllWithin self.new.largest (before ++ take count (T.cells tape.old)) }
     {
         for _drawn in 0..count {
             let cell = tape.draw().unwrap_or(0);
@@ -46,7 +46,7 @@ impl Bound {
 
     /// How far a count published at step `t` can lie from the true one.
     pub fn at<P: Plan>(&self, plan: &P, t: u16) -> u64
-        ensures { result ≡ self.now.largest * breadth_asked (P.Plan.back plan.now) t }
+        ensures { result ≡ self.now.largest * breadth_asked (P.back plan.now) t }
     {
         u64::from(self.largest) * u64::from(plan.breadth(t))
     }

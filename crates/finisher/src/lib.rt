@@ -71,8 +71,8 @@ pub struct Rising<F> {
 impl<F: Finisher> Rising<F> {
     /// Holds 0 for each class.
     pub fn new(below: F) -> Self
-        ensures says { rising_says F.Finisher.says result ≡ rising (F.Finisher.says below) none_held }
-        ensures stands { Same (rising_stands F.Finisher.says F.Finisher.stands result) (held_near (F.Finisher.says below) (F.Finisher.stands below) none_held) }
+        ensures says { rising_says F.says result ≡ rising (F.says below) none_held }
+        ensures stands { Same (rising_stands F.says F.stands result) (held_near (F.says below) (F.stands below) none_held) }
     {
         Rising {
             below,
@@ -82,11 +82,11 @@ impl<F: Finisher> Rising<F> {
 }
 
 impl<F: Finisher> Finisher for Rising<F> {
-    ghost says = { rising_says F.Finisher.says };
+    ghost says = { rising_says F.says };
 
-    ghost stands = { rising_stands F.Finisher.says F.Finisher.stands };
+    ghost stands = { rising_stands F.says F.stands };
 
-    ghost keeps = { λ f. rising-keeps (F.Finisher.says f.below) (F.Finisher.stands f.below) (F.Finisher.keeps f.below) f.held };
+    ghost keeps = { λ f. rising-keeps (F.says f.below) (F.stands f.below) (F.keeps f.below) f.held };
 
     fn begin(&mut self) {
         self.below.begin();
@@ -108,19 +108,19 @@ pub struct Floor<F>(F);
 impl<F: Finisher> Floor<F> {
     /// Stands on `below`.
     pub fn new(below: F) -> Self
-        ensures says { floor_says F.Finisher.says result ≡ floored (F.Finisher.says below) }
-        ensures stands { Same (floor_stands F.Finisher.stands result) (F.Finisher.stands below) }
+        ensures says { floor_says F.says result ≡ floored (F.says below) }
+        ensures stands { Same (floor_stands F.stands result) (F.stands below) }
     {
         Floor(below)
     }
 }
 
 impl<F: Finisher> Finisher for Floor<F> {
-    ghost says = { floor_says F.Finisher.says };
+    ghost says = { floor_says F.says };
 
-    ghost stands = { floor_stands F.Finisher.stands };
+    ghost stands = { floor_stands F.stands };
 
-    ghost keeps = { λ f. floor-keeps (F.Finisher.says f.0) (F.Finisher.stands f.0) (F.Finisher.keeps f.0) };
+    ghost keeps = { λ f. floor-keeps (F.says f.0) (F.stands f.0) (F.keeps f.0) };
 
     fn begin(&mut self) {
         self.0.begin();

@@ -3,7 +3,7 @@ use Rattle.std.proofs.Common.{ℕ, ◌+◌, ◌*◌, ◌^◌, ◌<◌, add-one}
 use native.Mathlib.Nat.{pow-succ'}
 use Rattle.plan.specs.Known.{dyadic}
 use Rattle.plan.specs.Formulas.{Formulas}
-use Rattle.plan.proofs.Singles.{single-depth, single-breadth}
+use Rattle.plan.specs.Singles.{single-depth, single-breadth}
 use Rattle.plan.specs.Halving.{halves-depth, halves-breadth}
 use Rattle.plan.specs.Dyadics.{dyadic-halves, dyadic-takes}
 

@@ -1,5 +1,4 @@
 pub mod Agree
 pub mod Laws
 pub mod Asked
-pub mod Singles
 pub mod Formulas

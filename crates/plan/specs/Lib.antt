@@ -9,3 +9,5 @@ pub mod Halving
 pub mod Sums
 pub mod Parts
 pub mod Covers
+pub mod Singles
+pub mod ChosenFalls

@@ -13,6 +13,7 @@ ghost use Rattle.plan.specs.Formulas.{Formulas};
 ghost use Rattle.plan.specs.Examples.{Examples};
 ghost use Rattle.std.proofs.Common.{rules};
 ghost use Rattle.plan.specs.Dyadics.{dyadic-falls};
+ghost use Rattle.plan.specs.ChosenFalls.{chosen-falls};
 
 use fault::{Cause, Fault, Layer};
 
@@ -132,6 +133,8 @@ impl Default for Chosen {
 impl Plan for Chosen {
     ghost back = { back_of };
 
+    ghost falls = { chosen-falls };
+
     fn back_step(&self, t: u16) -> u16 {
         match self {
             Chosen::Single => Single.back_step(t),
@@ -174,8 +177,8 @@ impl Cover {
 /// The cover of step `t`: `t`, its back step, the back step of that, and so on down to 0; empty beyond the horizon.
 /// The laws of covers, depth and breadth hold of every plan.
 pub fn cover_of<P: Plan>(plan: &P, t: u16) -> Cover
-    ensures steps { take result.count result.steps ≡ cover_asked (back plan.now) t }
-    ensures laws { CoverLaws (back plan.now) }
+    ensures steps { take result.count result.steps ≡ cover_asked (P.back plan.now) t }
+    ensures laws { CoverLaws (P.back plan.now) }
 {
     let mut steps = [0; MOST_PARTS];
     let mut count = 0;

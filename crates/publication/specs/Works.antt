@@ -51,9 +51,9 @@ ended_as (Ok e) = Ok e.written
 ended_as (Err (f, w)) = Err (told f)
 
 -- one record more; a refusal hands the publication back as it was
-abbrev pub counted : InWork → Result InWork (Fault × InWork) → Type 0
-counted given (Ok w) = w.records ≡ capped (given.records + 1)
-counted given (Err (f, w)) = w ≡ given
+abbrev pub Counted : InWork → Result InWork (Fault × InWork) → Type 0
+Counted given (Ok w) = w.records ≡ capped (given.records + 1)
+Counted given (Err (f, w)) = w ≡ given
 
 abbrev pub HandedBack : InWork → Result Ended (Fault × InWork) → Type 0
 HandedBack given (Ok e) = Unit {0}

@@ -3,7 +3,7 @@
 ghost use Rattle.std.specs.Prelude.{◌≡◌, ◌≤◌, length};
 ghost use Rattle.record.specs.Little.{field};
 ghost use Rattle.record.specs.Reads.{body_in, refusal, rest_after};
-ghost use Rattle.record.specs.Seen.{borrows, seen};
+ghost use Rattle.record.specs.Seen.{Borrows, seen};
 ghost use Rattle.publication.specs.Events.{allowed, event_in};
 
 use fault::{Cause, Fault, Layer};
@@ -33,7 +33,7 @@ impl Stage {
 pub fn read_event(bytes: &[u8], stage: Stage) -> (Reading<'_>, &[u8])
     ensures value { seen result.0 ≡ event_in stage bytes.now }
     ensures rest { result.1.now ≡ rest_after bytes.now }
-    ensures borrowed { borrows result.0 (body_in bytes.now) }
+    ensures borrowed { Borrows result.0 (body_in bytes.now) }
 {
     let (reading, rest) = read_record(bytes);
     if rest.len() == bytes.len() {

@@ -4,7 +4,7 @@ ghost use Rattle.std.specs.Prelude.{◌≡◌, ◌-◌, length};
 ghost use Rattle.fault.specs.Told.{told};
 ghost use Rattle.record.specs.Kinds.{ended};
 ghost use Rattle.record.specs.Seen.{entry_of};
-ghost use Rattle.publication.specs.Works.{added_as, added_with, capped, counted, ended_as, HandedBack, kind_not_taken, output_added, output_with, refused_by, written_with};
+ghost use Rattle.publication.specs.Works.{added_as, added_with, capped, Counted, ended_as, HandedBack, kind_not_taken, output_added, output_with, refused_by, written_with};
 
 use fault::{Cause, Fault, Layer};
 use record::Record;
@@ -43,7 +43,7 @@ impl InWork {
     /// then what the record's writer refuses, with nothing stored; the publication is handed back then.
     pub fn add(self, out: &mut [u8], entry: &Record<'_>) -> Result<InWork, (Fault, InWork)>
         ensures answer { added_as result ≡ added_with self.written (entry_of entry.now) (length out.old) }
-        ensures count { counted self result }
+        ensures count { Counted self result }
         ensures after { out.new ≡ output_added self.written (entry_of entry.now) out.old }
     {
         let kind = entry.kind();
@@ -67,7 +67,7 @@ impl InWork {
     /// written as 4,294,967,295. Refused as `add` is.
     pub fn refuse(self, out: &mut [u8], fault: Fault, event: u64) -> Result<InWork, (Fault, InWork)>
         ensures answer { added_as result ≡ written_with self.written (refused_by (told fault) event) (length out.old) }
-        ensures count { counted self result }
+        ensures count { Counted self result }
         ensures after { out.new ≡ output_with self.written (refused_by (told fault) event) out.old }
     {
         let entry = refused_record(fault, event);

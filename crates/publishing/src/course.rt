@@ -36,10 +36,10 @@ pub(crate) fn answer_rest<P: Plan, T: Tape, F: Finisher>(
     out: &mut [u8],
     events: &[u8],
 ) -> InWork
-    requires idle { Kept None (view_of P.Plan.back T.Tape.cells F.Finisher.says station.old) }
+    requires idle { Kept None (view_of P.back T.cells F.says station.old) }
     requires room { work.written + 120 ≤ length out.old }
     requires few { length events.now + 2 < 2 ^ 64 }
-    ensures wrote { Wrote (records_from (length events.now) (length out.old - work.written) 2 (view_of P.Plan.back T.Tape.cells F.Finisher.says station.old) events.now) work out.old result out.new }
+    ensures wrote { Wrote (records_from (length events.now) (length out.old - work.written) 2 (view_of P.back T.cells F.says station.old) events.now) work out.old result out.new }
     ensures room { result.written + 8 ≤ length out.new }
 {
     let mut course = Course { work, hold: None };
@@ -63,11 +63,11 @@ fn turn<'a, P: Plan, T: Tape, F: Finisher>(
     events: &'a [u8],
     event: u64,
 ) -> (Course, &'a [u8])
-    requires kept { Kept course.hold (view_of P.Plan.back T.Tape.cells F.Finisher.says station.old) }
-    requires room { course.work.written + length (bytes_in (given event (view_of P.Plan.back T.Tape.cells F.Finisher.says station.old) (next_in (length out.old - course.work.written) events.now))) ≤ length out.old }
-    ensures wrote { Wrote (given event (view_of P.Plan.back T.Tape.cells F.Finisher.says station.old) (next_in (length out.old - course.work.written) events.now)) course.work out.old result.0.work out.new }
-    ensures after { view_of P.Plan.back T.Tape.cells F.Finisher.says station.new ≡ station_by (view_of P.Plan.back T.Tape.cells F.Finisher.says station.old) (next_in (length out.old - course.work.written) events.now) }
-    ensures kept { Kept result.0.hold (view_of P.Plan.back T.Tape.cells F.Finisher.says station.new) }
+    requires kept { Kept course.hold (view_of P.back T.cells F.says station.old) }
+    requires room { course.work.written + length (bytes_in (given event (view_of P.back T.cells F.says station.old) (next_in (length out.old - course.work.written) events.now))) ≤ length out.old }
+    ensures wrote { Wrote (given event (view_of P.back T.cells F.says station.old) (next_in (length out.old - course.work.written) events.now)) course.work out.old result.0.work out.new }
+    ensures after { view_of P.back T.cells F.says station.new ≡ station_by (view_of P.back T.cells F.says station.old) (next_in (length out.old - course.work.written) events.now) }
+    ensures kept { Kept result.0.hold (view_of P.back T.cells F.says station.new) }
     ensures rest { result.1.now ≡ rest_in (length out.old - course.work.written) events.now }
 {
     let left = course.work.left(out.len());
@@ -91,12 +91,12 @@ fn answer<P: Plan, T: Tape, F: Finisher>(
     reading: &Reading<'_>,
     event: u64,
 ) -> Course
-    requires kept { Kept course.hold (view_of P.Plan.back T.Tape.cells F.Finisher.says station.old) }
+    requires kept { Kept course.hold (view_of P.back T.cells F.says station.old) }
     requires few { FewCounts (seen reading.now) }
-    requires room { course.work.written + length (bytes_in (given event (view_of P.Plan.back T.Tape.cells F.Finisher.says station.old) (seen reading.now))) ≤ length out.old }
-    ensures wrote { Wrote (given event (view_of P.Plan.back T.Tape.cells F.Finisher.says station.old) (seen reading.now)) course.work out.old result.work out.new }
-    ensures after { view_of P.Plan.back T.Tape.cells F.Finisher.says station.new ≡ station_by (view_of P.Plan.back T.Tape.cells F.Finisher.says station.old) (seen reading.now) }
-    ensures kept { Kept result.hold (view_of P.Plan.back T.Tape.cells F.Finisher.says station.new) }
+    requires room { course.work.written + length (bytes_in (given event (view_of P.back T.cells F.says station.old) (seen reading.now))) ≤ length out.old }
+    ensures wrote { Wrote (given event (view_of P.back T.cells F.says station.old) (seen reading.now)) course.work out.old result.work out.new }
+    ensures after { view_of P.back T.cells F.says station.new ≡ station_by (view_of P.back T.cells F.says station.old) (seen reading.now) }
+    ensures kept { Kept result.hold (view_of P.back T.cells F.says station.new) }
 {
     match reading {
         Reading::Found(record) => answer_record(station, course, out, record, event),
@@ -113,12 +113,12 @@ fn answer_record<P: Plan, T: Tape, F: Finisher>(
     entry: &Record<'_>,
     event: u64,
 ) -> Course
-    requires kept { Kept course.hold (view_of P.Plan.back T.Tape.cells F.Finisher.says station.old) }
+    requires kept { Kept course.hold (view_of P.back T.cells F.says station.old) }
     requires few { (1 ≤ number_of_counts (entry_of entry.now)) × (number_of_counts (entry_of entry.now) ≤ 8) }
-    requires room { course.work.written + length (bytes_of (record_for event (reply_of (view_of P.Plan.back T.Tape.cells F.Finisher.says station.old) (entry_of entry.now)))) ≤ length out.old }
-    ensures wrote { Wrote (record_for event (reply_of (view_of P.Plan.back T.Tape.cells F.Finisher.says station.old) (entry_of entry.now)) ∷ []) course.work out.old result.work out.new }
-    ensures after { view_of P.Plan.back T.Tape.cells F.Finisher.says station.new ≡ station_after (view_of P.Plan.back T.Tape.cells F.Finisher.says station.old) (entry_of entry.now) }
-    ensures kept { Kept result.hold (view_of P.Plan.back T.Tape.cells F.Finisher.says station.new) }
+    requires room { course.work.written + length (bytes_of (record_for event (reply_of (view_of P.back T.cells F.says station.old) (entry_of entry.now)))) ≤ length out.old }
+    ensures wrote { Wrote (record_for event (reply_of (view_of P.back T.cells F.says station.old) (entry_of entry.now)) ∷ []) course.work out.old result.work out.new }
+    ensures after { view_of P.back T.cells F.says station.new ≡ station_after (view_of P.back T.cells F.says station.old) (entry_of entry.now) }
+    ensures kept { Kept result.hold (view_of P.back T.cells F.says station.new) }
 {
     match entry {
         Record::Step { row } => answer_step(station, course, out, row, event),
@@ -135,12 +135,12 @@ fn answer_other<P: Plan, T: Tape, F: Finisher>(
     event: u64,
 ) -> Course
     requires other { is_step (entry_of entry.now) ≡ false }
-    requires kept { Kept course.hold (view_of P.Plan.back T.Tape.cells F.Finisher.says station.old) }
+    requires kept { Kept course.hold (view_of P.back T.cells F.says station.old) }
     requires few { (1 ≤ number_of_counts (entry_of entry.now)) × (number_of_counts (entry_of entry.now) ≤ 8) }
-    requires room { course.work.written + length (bytes_of (record_for event (reply_of (view_of P.Plan.back T.Tape.cells F.Finisher.says station.old) (entry_of entry.now)))) ≤ length out.old }
-    ensures wrote { Wrote (record_for event (reply_of (view_of P.Plan.back T.Tape.cells F.Finisher.says station.old) (entry_of entry.now)) ∷ []) course.work out.old result.work out.new }
-    ensures after { view_of P.Plan.back T.Tape.cells F.Finisher.says station.new ≡ station_after (view_of P.Plan.back T.Tape.cells F.Finisher.says station.old) (entry_of entry.now) }
-    ensures kept { Kept result.hold (view_of P.Plan.back T.Tape.cells F.Finisher.says station.new) }
+    requires room { course.work.written + length (bytes_of (record_for event (reply_of (view_of P.back T.cells F.says station.old) (entry_of entry.now)))) ≤ length out.old }
+    ensures wrote { Wrote (record_for event (reply_of (view_of P.back T.cells F.says station.old) (entry_of entry.now)) ∷ []) course.work out.old result.work out.new }
+    ensures after { view_of P.back T.cells F.says station.new ≡ station_after (view_of P.back T.cells F.says station.old) (entry_of entry.now) }
+    ensures kept { Kept result.hold (view_of P.back T.cells F.says station.new) }
 {
     let Course { work, hold } = course;
     let (reply, hold) = reply_to(station, hold, entry);
@@ -156,12 +156,12 @@ fn answer_step<P: Plan, T: Tape, F: Finisher>(
     row: &Row<'_>,
     event: u64,
 ) -> Course
-    requires kept { Kept course.hold (view_of P.Plan.back T.Tape.cells F.Finisher.says station.old) }
+    requires kept { Kept course.hold (view_of P.back T.cells F.says station.old) }
     requires few { (1 ≤ length (row_in row.now.bytes.now)) × (length (row_in row.now.bytes.now) ≤ 8) }
-    requires room { course.work.written + length (bytes_of (record_for event (reply_of (view_of P.Plan.back T.Tape.cells F.Finisher.says station.old) (stepping (row_in row.now.bytes.now))))) ≤ length out.old }
-    ensures wrote { Wrote (record_for event (reply_of (view_of P.Plan.back T.Tape.cells F.Finisher.says station.old) (stepping (row_in row.now.bytes.now))) ∷ []) course.work out.old result.work out.new }
-    ensures after { view_of P.Plan.back T.Tape.cells F.Finisher.says station.new ≡ station_after (view_of P.Plan.back T.Tape.cells F.Finisher.says station.old) (stepping (row_in row.now.bytes.now)) }
-    ensures kept { Kept result.hold (view_of P.Plan.back T.Tape.cells F.Finisher.says station.new) }
+    requires room { course.work.written + length (bytes_of (record_for event (reply_of (view_of P.back T.cells F.says station.old) (stepping (row_in row.now.bytes.now))))) ≤ length out.old }
+    ensures wrote { Wrote (record_for event (reply_of (view_of P.back T.cells F.says station.old) (stepping (row_in row.now.bytes.now))) ∷ []) course.work out.old result.work out.new }
+    ensures after { view_of P.back T.cells F.says station.new ≡ station_after (view_of P.back T.cells F.says station.old) (stepping (row_in row.now.bytes.now)) }
+    ensures kept { Kept result.hold (view_of P.back T.cells F.says station.new) }
 {
     let Course { work, hold } = course;
     match hold {
@@ -196,9 +196,9 @@ fn finish<P: Plan, T: Tape, F: Finisher>(
     course: Course,
     out: &mut [u8],
 ) -> InWork
-    requires kept { Kept course.hold (view_of P.Plan.back T.Tape.cells F.Finisher.says station.old) }
+    requires kept { Kept course.hold (view_of P.back T.cells F.says station.old) }
     requires room { course.work.written + 14 ≤ length out.old }
-    ensures { Wrote (closing_of (view_of P.Plan.back T.Tape.cells F.Finisher.says station.old)) course.work out.old result out.new }
+    ensures { Wrote (closing_of (view_of P.back T.cells F.says station.old)) course.work out.old result out.new }
 {
     let Course { work, hold } = course;
     match hold {

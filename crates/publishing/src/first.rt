@@ -87,7 +87,7 @@ fn follow<T: Tape + Drop>(
     requires new { work.written ≡ 0 }
     requires room { 120 ≤ length out.old }
     requires few { length events.now + 2 < 2 ^ 64 }
-    ensures wrote { Wrote (records_set_up (Ok start) (length out.old) (T.Tape.cells tape) events.now) work out.old result out.new }
+    ensures wrote { Wrote (records_set_up (Ok start) (length out.old) (T.cells tape) events.now) work out.old result out.new }
     ensures room { result.written + 8 ≤ length out.new }
 {
     let Start { setting, plan } = start;

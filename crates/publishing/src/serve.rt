@@ -40,10 +40,10 @@ pub(crate) fn reply_to<P: Plan, T: Tape, F: Finisher>(
     event: &Record<'_>,
 ) -> (Result<Reply, Fault>, Option<Hold>)
     requires other { is_step (entry_of event.now) ≡ false }
-    requires kept { Kept hold (view_of P.Plan.back T.Tape.cells F.Finisher.says station.old) }
-    ensures reply { replied_as result.0 ≡ reply_of (view_of P.Plan.back T.Tape.cells F.Finisher.says station.old) (entry_of event.now) }
-    ensures after { view_of P.Plan.back T.Tape.cells F.Finisher.says station.new ≡ station_after (view_of P.Plan.back T.Tape.cells F.Finisher.says station.old) (entry_of event.now) }
-    ensures kept { Kept result.1 (view_of P.Plan.back T.Tape.cells F.Finisher.says station.new) }
+    requires kept { Kept hold (view_of P.back T.cells F.says station.old) }
+    ensures reply { replied_as result.0 ≡ reply_of (view_of P.back T.cells F.says station.old) (entry_of event.now) }
+    ensures after { view_of P.back T.cells F.says station.new ≡ station_after (view_of P.back T.cells F.says station.old) (entry_of event.now) }
+    ensures kept { Kept result.1 (view_of P.back T.cells F.says station.new) }
 {
     match (hold, event) {
         (None, Record::Open { horizon }) => open_epoch(station, *horizon),
@@ -81,10 +81,10 @@ fn open_epoch<P: Plan, T: Tape, F: Finisher>(
     station: &mut Station<P, T, F>,
     horizon: u16,
 ) -> (Result<Reply, Fault>, Option<Hold>)
-    requires { Kept None (view_of P.Plan.back T.Tape.cells F.Finisher.says station.old) }
-    ensures reply { replied_as result.0 ≡ reply_of (view_of P.Plan.back T.Tape.cells F.Finisher.says station.old) (opening horizon) }
-    ensures after { view_of P.Plan.back T.Tape.cells F.Finisher.says station.new ≡ station_after (view_of P.Plan.back T.Tape.cells F.Finisher.says station.old) (opening horizon) }
-    ensures kept { Kept result.1 (view_of P.Plan.back T.Tape.cells F.Finisher.says station.new) }
+    requires { Kept None (view_of P.back T.cells F.says station.old) }
+    ensures reply { replied_as result.0 ≡ reply_of (view_of P.back T.cells F.says station.old) (opening horizon) }
+    ensures after { view_of P.back T.cells F.says station.new ≡ station_after (view_of P.back T.cells F.says station.old) (opening horizon) }
+    ensures kept { Kept result.1 (view_of P.back T.cells F.says station.new) }
 {
     match station.open(horizon) {
         Ok(hold) => {
@@ -109,10 +109,10 @@ pub(crate) fn take_step<P: Plan, T: Tape, F: Finisher>(
     event: u64,
 ) -> InWork
     requires counts { (1 ≤ length (row_in row.now.bytes.now)) × (length (row_in row.now.bytes.now) ≤ 8) }
-    requires newest { serial ≡ (view_of P.Plan.back T.Tape.cells F.Finisher.says station.old).serial }
-    requires room { work.written + length (bytes_of (record_for event (reply_of (view_of P.Plan.back T.Tape.cells F.Finisher.says station.old) (stepping (row_in row.now.bytes.now))))) ≤ length out.old }
-    ensures wrote { Wrote (record_for event (reply_of (view_of P.Plan.back T.Tape.cells F.Finisher.says station.old) (stepping (row_in row.now.bytes.now))) ∷ []) work out.old result out.new }
-    ensures after { view_of P.Plan.back T.Tape.cells F.Finisher.says station.new ≡ station_after (view_of P.Plan.back T.Tape.cells F.Finisher.says station.old) (stepping (row_in row.now.bytes.now)) }
+    requires newest { serial ≡ (view_of P.back T.cells F.says station.old).serial }
+    requires room { work.written + length (bytes_of (record_for event (reply_of (view_of P.back T.cells F.says station.old) (stepping (row_in row.now.bytes.now))))) ≤ length out.old }
+    ensures wrote { Wrote (record_for event (reply_of (view_of P.back T.cells F.says station.old) (stepping (row_in row.now.bytes.now))) ∷ []) work out.old result out.new }
+    ensures after { view_of P.back T.cells F.says station.new ≡ station_after (view_of P.back T.cells F.says station.old) (stepping (row_in row.now.bytes.now)) }
 {
     let counts = counts_of(row);
     match station.step(&counts[0..row.len()]) {
@@ -130,10 +130,10 @@ fn put_published<P: Plan, T: Tape, F: Finisher>(
     work: InWork,
     out: &mut [u8],
 ) -> InWork
-    requires counts { (1 ≤ classes) × (classes ≤ 8) × (classes ≡ (view_of P.Plan.back T.Tape.cells F.Finisher.says station.now).setting.classes) }
-    requires newest { (serial ≡ (view_of P.Plan.back T.Tape.cells F.Finisher.says station.now).serial) × (step ≡ (view_of P.Plan.back T.Tape.cells F.Finisher.says station.now).steps) × (0 < step) }
-    requires room { work.written + length (bytes_of (record_of_published (view_of P.Plan.back T.Tape.cells F.Finisher.says station.now))) ≤ length out.old }
-    ensures { Wrote (record_of_published (view_of P.Plan.back T.Tape.cells F.Finisher.says station.now) ∷ []) work out.old result out.new }
+    requires counts { (1 ≤ classes) × (classes ≤ 8) × (classes ≡ (view_of P.back T.cells F.says station.now).setting.classes) }
+    requires newest { (serial ≡ (view_of P.back T.cells F.says station.now).serial) × (step ≡ (view_of P.back T.cells F.says station.now).steps) × (0 < step) }
+    requires room { work.written + length (bytes_of (record_of_published (view_of P.back T.cells F.says station.now))) ≤ length out.old }
+    ensures { Wrote (record_of_published (view_of P.back T.cells F.says station.now) ∷ []) work out.old result out.new }
 {
     let mut bytes = [0; ROOM];
     read_counts(station, classes, &mut bytes);
@@ -157,10 +157,10 @@ fn close_epoch<P: Plan, T: Tape, F: Finisher>(
     station: &mut Station<P, T, F>,
     hold: Hold,
 ) -> (Result<Reply, Fault>, Option<Hold>)
-    requires { Kept (Some hold) (view_of P.Plan.back T.Tape.cells F.Finisher.says station.old) }
-    ensures reply { replied_as result.0 ≡ reply_of (view_of P.Plan.back T.Tape.cells F.Finisher.says station.old) closing }
-    ensures after { view_of P.Plan.back T.Tape.cells F.Finisher.says station.new ≡ station_after (view_of P.Plan.back T.Tape.cells F.Finisher.says station.old) closing }
-    ensures kept { Kept result.1 (view_of P.Plan.back T.Tape.cells F.Finisher.says station.new) }
+    requires { Kept (Some hold) (view_of P.back T.cells F.says station.old) }
+    ensures reply { replied_as result.0 ≡ reply_of (view_of P.back T.cells F.says station.old) closing }
+    ensures after { view_of P.back T.cells F.says station.new ≡ station_after (view_of P.back T.cells F.says station.old) closing }
+    ensures kept { Kept result.1 (view_of P.back T.cells F.says station.new) }
 {
     let serial = hold.serial();
     match station.close(hold) {
@@ -195,9 +195,9 @@ fn read_counts<P: Plan, T: Tape, F: Finisher>(
     bytes: &mut [u8; ROOM],
 )
     requires few { classes ≤ 8 }
-    requires known { classes ≤ (view_of P.Plan.back T.Tape.cells F.Finisher.says station.now).setting.classes }
-    requires stepped { 0 < (view_of P.Plan.back T.Tape.cells F.Finisher.says station.now).steps }
-    ensures { tally_in (take (8 * classes) bytes.new) ≡ map (λ class. (lane_at (view_of P.Plan.back T.Tape.cells F.Finisher.says station.now) class).published) (range_with_len 0 classes) }
+    requires known { classes ≤ (view_of P.back T.cells F.says station.now).setting.classes }
+    requires stepped { 0 < (view_of P.back T.cells F.says station.now).steps }
+    ensures { tally_in (take (8 * classes) bytes.new) ≡ map (λ class. (lane_at (view_of P.back T.cells F.says station.now) class).published) (range_with_len 0 classes) }
 {
     for class in 0..classes {
         let count = station.read(class).unwrap_or(0);

@@ -25,18 +25,18 @@ seen Nothing = nothing
 seen (Faulty f) = faulty (told f)
 
 -- the counts that a record borrows are its body's, byte for byte
-abbrev pub Borrows : Record → List ℕ → Type 0
-Borrows (SetUp s k p g) body = Unit {0}
-Borrows (Open t) body = Unit {0}
-Borrows (Step row) body = row.bytes.now ≡ body
-Borrows Close body = Unit {0}
-Borrows (Opened e t h) body = Unit {0}
-Borrows (Published e t tally) body = tally.bytes.now ≡ drop 6 body
-Borrows (Closed e t s) body = Unit {0}
-Borrows (Refused n l p e) body = Unit {0}
-Borrows (End n) body = Unit {0}
+abbrev pub RecordBorrows : Record → List ℕ → Type 0
+RecordBorrows (SetUp s k p g) body = Unit {0}
+RecordBorrows (Open t) body = Unit {0}
+RecordBorrows (Step row) body = row.bytes.now ≡ body
+RecordBorrows Close body = Unit {0}
+RecordBorrows (Opened e t h) body = Unit {0}
+RecordBorrows (Published e t tally) body = tally.bytes.now ≡ drop 6 body
+RecordBorrows (Closed e t s) body = Unit {0}
+RecordBorrows (Refused n l p e) body = Unit {0}
+RecordBorrows (End n) body = Unit {0}
 
-abbrev pub borrows : Reading → List ℕ → Type 0
-borrows (Found r) body = Borrows r body
-borrows Nothing body = Unit {0}
-borrows (Faulty f) body = Unit {0}
+abbrev pub Borrows : Reading → List ℕ → Type 0
+Borrows (Found r) body = RecordBorrows r body
+Borrows Nothing body = Unit {0}
+Borrows (Faulty f) body = Unit {0}

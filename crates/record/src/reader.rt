@@ -2,7 +2,7 @@
 
 ghost use Rattle.std.specs.Prelude.{◌≡◌, ◌<◌, ◌++◌, length as size};
 ghost use Rattle.record.specs.Kinds.{Entry, bytes_of};
-ghost use Rattle.record.specs.Seen.{borrows, seen};
+ghost use Rattle.record.specs.Seen.{Borrows, seen};
 ghost use Rattle.record.specs.Reads.{answer_to, body_in, decode, has_few_counts, found, refusal, rest_after};
 
 use crate::fields::{u16_at, u32_at};
@@ -22,7 +22,7 @@ pub enum Reading<'a> {
 pub fn read_record(bytes: &[u8]) -> (Reading<'_>, &[u8])
     ensures value { seen result.0 ≡ answer_to bytes.now }
     ensures rest { result.1.now ≡ rest_after bytes.now }
-    ensures borrowed { borrows result.0 (body_in bytes.now) }
+    ensures borrowed { Borrows result.0 (body_in bytes.now) }
     ensures same_bytes { (e : Entry) → seen result.0 ≡ found e → bytes_of e ++ result.1.now ≡ bytes.now }
 {
     match bytes {
@@ -41,7 +41,7 @@ pub fn read_record(bytes: &[u8]) -> (Reading<'_>, &[u8])
 
 fn cut_short<'a>(bytes: &[u8]) -> Reading<'a>
     ensures value { seen result ≡ refusal 16 (size bytes.now) }
-    ensures borrowed { borrows result (body_in bytes.now) }
+    ensures borrowed { Borrows result (body_in bytes.now) }
 {
     Reading::Faulty(Fault {
         cause: Cause::CutShort(bytes.len()),
@@ -52,7 +52,7 @@ fn cut_short<'a>(bytes: &[u8]) -> Reading<'a>
 /// The record of this kind with this body.
 fn unpack(kind: u16, body: &[u8]) -> Reading<'_>
     ensures value { seen result ≡ decode kind body.now }
-    ensures borrowed { borrows result body.now }
+    ensures borrowed { Borrows result body.now }
 {
     match kind {
         1 => unpack_set_up(body),
@@ -73,7 +73,7 @@ fn unpack(kind: u16, body: &[u8]) -> Reading<'_>
 
 fn unfit<'a>(body: &[u8]) -> Reading<'a>
     ensures value { seen result ≡ refusal 18 (size body.now) }
-    ensures borrowed { borrows result body.now }
+    ensures borrowed { Borrows result body.now }
 {
     Reading::Faulty(Fault {
         cause: Cause::LengthUnfit(body.len()),
@@ -83,7 +83,7 @@ fn unfit<'a>(body: &[u8]) -> Reading<'a>
 
 fn unpack_set_up(body: &[u8]) -> Reading<'_>
     ensures value { seen result ≡ decode 1 body.now }
-    ensures borrowed { borrows result body.now }
+    ensures borrowed { Borrows result body.now }
 {
     if body.len() != 12 {
         return unfit(body);
@@ -102,7 +102,7 @@ fn unpack_set_up(body: &[u8]) -> Reading<'_>
 
 fn unpack_open(body: &[u8]) -> Reading<'_>
     ensures value { seen result ≡ decode 2 body.now }
-    ensures borrowed { borrows result body.now }
+    ensures borrowed { Borrows result body.now }
 {
     if body.len() != 2 {
         return unfit(body);
@@ -114,7 +114,7 @@ fn unpack_open(body: &[u8]) -> Reading<'_>
 
 fn unpack_step(body: &[u8]) -> Reading<'_>
     ensures value { seen result ≡ decode 3 body.now }
-    ensures borrowed { borrows result body.now }
+    ensures borrowed { Borrows result body.now }
 {
     if !few_counts(2, body.len()) {
         return unfit(body);
@@ -126,7 +126,7 @@ fn unpack_step(body: &[u8]) -> Reading<'_>
 
 fn unpack_close(body: &[u8]) -> Reading<'_>
     ensures value { seen result ≡ decode 4 body.now }
-    ensures borrowed { borrows result body.now }
+    ensures borrowed { Borrows result body.now }
 {
     if !body.is_empty() {
         return unfit(body);
@@ -136,7 +136,7 @@ fn unpack_close(body: &[u8]) -> Reading<'_>
 
 fn unpack_opened(body: &[u8]) -> Reading<'_>
     ensures value { seen result ≡ decode 33 body.now }
-    ensures borrowed { borrows result body.now }
+    ensures borrowed { Borrows result body.now }
 {
     if body.len() != 10 {
         return unfit(body);
@@ -153,7 +153,7 @@ fn unpack_opened(body: &[u8]) -> Reading<'_>
 
 fn unpack_published(body: &[u8]) -> Reading<'_>
     ensures value { seen result ≡ decode 34 body.now }
-    ensures borrowed { borrows result body.now }
+    ensures borrowed { Borrows result body.now }
 {
     if body.len() < 6 || !few_counts(8, body.len() - 6) {
         return unfit(body);
@@ -169,7 +169,7 @@ fn unpack_published(body: &[u8]) -> Reading<'_>
 
 fn unpack_closed(body: &[u8]) -> Reading<'_>
     ensures value { seen result ≡ decode 35 body.now }
-    ensures borrowed { borrows result body.now }
+    ensures borrowed { Borrows result body.now }
 {
     if body.len() != 10 {
         return unfit(body);
@@ -186,7 +186,7 @@ fn unpack_closed(body: &[u8]) -> Reading<'_>
 
 fn unpack_refused(body: &[u8]) -> Reading<'_>
     ensures value { seen result ≡ decode 36 body.now }
-    ensures borrowed { borrows result body.now }
+    ensures borrowed { Borrows result body.now }
 {
     if body.len() != 12 {
         return unfit(body);
@@ -205,7 +205,7 @@ fn unpack_refused(body: &[u8]) -> Reading<'_>
 
 fn unpack_end(body: &[u8]) -> Reading<'_>
     ensures value { seen result ≡ decode 37 body.now }
-    ensures borrowed { borrows result body.now }
+    ensures borrowed { Borrows result body.now }
 {
     if body.len() != 4 {
         return unfit(body);

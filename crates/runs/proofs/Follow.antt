@@ -94,21 +94,21 @@ module _ (p : Making) (lawful : LawfulMaking p) (Q : List finisher.Call → Stat
 
 -- with no fact besides
 
-abbrev pub nothing-more : List finisher.Call → Station → Type 0
-nothing-more l s = Unit {0}
+abbrev pub NothingMore : List finisher.Call → Station → Type 0
+NothingMore l s = Unit {0}
 
-pub none-carried : (p : Making) → Carried p nothing-more
+pub none-carried : (p : Making) → Carried p NothingMore
 none-carried p = record { at-start = tt; at_open = λ s n rows l t e. tt; at-step = λ s n rows l t row f h q. tt; at-close = λ s l q. tt }
 
 module _ (p : Making) (lawful : LawfulMaking p) where
   abbrev pub Following : Station → ℕ → List (List ℕ) → Type 0
-  Following = Keeping p lawful nothing-more (none-carried p)
+  Following = Keeping p lawful NothingMore (none-carried p)
 
   pub follow-made : Following (make p) 0 []
-  follow-made = keep-made p lawful nothing-more (none-carried p)
+  follow-made = keep-made p lawful NothingMore (none-carried p)
 
   pub follow-by : (s : Station) (n : ℕ) (rows : List (List ℕ)) (call : Call) (o : Option Told) → refusal s call ≡ o → Following s n rows → Following (station_by o s call) (rows_taken (answer_by o s call ∷ []) + n) (epoch_after rows call (answer_by o s call))
-  follow-by = keep-by p lawful nothing-more (none-carried p)
+  follow-by = keep-by p lawful NothingMore (none-carried p)
 
   pub follow : (calls : List Call) → Following (station_after (make p) calls) (rows_taken (answers (make p) calls)) (epoch_rows [] calls (answers (make p) calls))
-  follow = keep p lawful nothing-more (none-carried p)
+  follow = keep p lawful NothingMore (none-carried p)

@@ -30,10 +30,10 @@ fn refuse(cause: Cause) -> Fault
 impl<P: Plan, T: Tape, F: Finisher> Station<P, T, F> {
     /// A station that is idle. What holds of its every run from here on, and of every two runs side by side, is said here.
     pub fn new(setting: Lawful, plan: P, tape: T, finisher: F) -> Self
-        ensures each_run { EachRun (making_of (lawful_of setting) (P.Plan.back plan) (T.Tape.cells tape) (F.Finisher.says finisher)) }
+        ensures each_run { EachRun (making_of (lawful_of setting) (P.back plan) (T.cells tape) (F.says finisher)) }
         ensures paired_runs { PairedRuns }
         ensures examples { WorkedExamples }
-        ensures made { view_of P.Plan.back T.Tape.cells F.Finisher.says result ≡ made (lawful_of setting) (P.Plan.back plan) (T.Tape.cells tape) (F.Finisher.says finisher) }
+        ensures made { view_of P.back T.cells F.says result ≡ made (lawful_of setting) (P.back plan) (T.cells tape) (F.says finisher) }
     {
         let Lawful {
             number,
@@ -54,8 +54,8 @@ impl<P: Plan, T: Tape, F: Finisher> Station<P, T, F> {
 
     /// Opens an epoch of `horizon` steps, and answers the hold on it.
     pub fn open(&mut self, horizon: u16) -> Result<Hold, Fault>
-        ensures answer { opened_as result ≡ answer (view_of P.Plan.back T.Tape.cells F.Finisher.says self.old) (opens horizon) }
-        ensures after { view_of P.Plan.back T.Tape.cells F.Finisher.says self.new ≡ next (view_of P.Plan.back T.Tape.cells F.Finisher.says self.old) (opens horizon) }
+        ensures answer { opened_as result ≡ answer (view_of P.back T.cells F.says self.old) (opens horizon) }
+        ensures after { view_of P.back T.cells F.says self.new ≡ next (view_of P.back T.cells F.says self.old) (opens horizon) }
         ensures refused { is_ok result ≡ false → self.new ≡ self.old }
     {
         self.look_open(horizon)?;
@@ -70,8 +70,8 @@ impl<P: Plan, T: Tape, F: Finisher> Station<P, T, F> {
 
     /// Takes a row: each class its count and a cell. It answers the step's number.
     pub fn step(&mut self, row: &[u16]) -> Result<u16, Fault>
-        ensures answer { stepped_as result ≡ answer (view_of P.Plan.back T.Tape.cells F.Finisher.says self.old) (steps_by row.now) }
-        ensures after { view_of P.Plan.back T.Tape.cells F.Finisher.says self.new ≡ next (view_of P.Plan.back T.Tape.cells F.Finisher.says self.old) (steps_by row.now) }
+        ensures answer { stepped_as result ≡ answer (view_of P.back T.cells F.says self.old) (steps_by row.now) }
+        ensures after { view_of P.back T.cells F.says self.new ≡ next (view_of P.back T.cells F.says self.old) (steps_by row.now) }
         ensures refused { is_ok result ≡ false → self.new ≡ self.old }
     {
         self.look_step(row)?;
@@ -82,8 +82,8 @@ impl<P: Plan, T: Tape, F: Finisher> Station<P, T, F> {
     /// Closes the epoch that the hold is on, and answers its steps and the units that they spend; another hold is
     /// handed back.
     pub fn close(&mut self, hold: Hold) -> Result<Closed, (Fault, Hold)>
-        ensures answer { closed_as result ≡ answer (view_of P.Plan.back T.Tape.cells F.Finisher.says self.old) (closes hold.station hold.serial) }
-        ensures after { view_of P.Plan.back T.Tape.cells F.Finisher.says self.new ≡ next (view_of P.Plan.back T.Tape.cells F.Finisher.says self.old) (closes hold.station hold.serial) }
+        ensures answer { closed_as result ≡ answer (view_of P.back T.cells F.says self.old) (closes hold.station hold.serial) }
+        ensures after { view_of P.back T.cells F.says self.new ≡ next (view_of P.back T.cells F.says self.old) (closes hold.station hold.serial) }
         ensures refused { is_ok result ≡ false → self.new ≡ self.old }
         ensures handed { HandedBack hold result }
     {
@@ -112,8 +112,8 @@ impl<P: Plan, T: Tape, F: Finisher> Station<P, T, F> {
 
     /// Takes a row that can be taken.
     fn take_row(&mut self, row: &[u16])
-        requires { MayStep (view_of P.Plan.back T.Tape.cells F.Finisher.says self.old) row.now }
-        ensures { view_of P.Plan.back T.Tape.cells F.Finisher.says self.new ≡ after_row (view_of P.Plan.back T.Tape.cells F.Finisher.says self.old) row.now }
+        requires { MayStep (view_of P.back T.cells F.says self.old) row.now }
+        ensures { view_of P.back T.cells F.says self.new ≡ after_row (view_of P.back T.cells F.says self.old) row.now }
     {
         let back = self.plan.back_step(self.table.steps() + 1) as usize;
         self.table
@@ -122,7 +122,7 @@ impl<P: Plan, T: Tape, F: Finisher> Station<P, T, F> {
 
     /// Whether an epoch of `horizon` steps can be opened, but for its units.
     fn look_open(&self, horizon: u16) -> Result<(), Fault>
-        ensures { MatchResult result (λ _. MayOpen (view_of P.Plan.back T.Tape.cells F.Finisher.says self.now) horizon) (λ f. refusal (view_of P.Plan.back T.Tape.cells F.Finisher.says self.now) (opens horizon) ≡ Some (told f)) }
+        ensures { MatchResult result (λ _. MayOpen (view_of P.back T.cells F.says self.now) horizon) (λ f. refusal (view_of P.back T.cells F.says self.now) (opens horizon) ≡ Some (told f)) }
     {
         match self.phase {
             Phase::Running { .. } => Err(refuse(Cause::AlreadyOpen(self.serial))),
@@ -140,7 +140,7 @@ impl<P: Plan, T: Tape, F: Finisher> Station<P, T, F> {
 
     /// Whether a row can be taken.
     fn look_step(&self, row: &[u16]) -> Result<(), Fault>
-        ensures { MatchResult result (λ _. MayStep (view_of P.Plan.back T.Tape.cells F.Finisher.says self.now) row.now) (λ f. refusal (view_of P.Plan.back T.Tape.cells F.Finisher.says self.now) (steps_by row.now) ≡ Some (told f)) }
+        ensures { MatchResult result (λ _. MayStep (view_of P.back T.cells F.says self.now) row.now) (λ f. refusal (view_of P.back T.cells F.says self.now) (steps_by row.now) ≡ Some (told f)) }
     {
         match self.phase {
             Phase::Idle => Err(refuse(Cause::NoEpoch)),
@@ -169,7 +169,7 @@ impl<P: Plan, T: Tape, F: Finisher> Station<P, T, F> {
 
     /// The newest published count of a class, in the newest epoch.
     pub fn read(&self, class: usize) -> Result<i64, Fault>
-        ensures { read_as result ≡ answer (view_of P.Plan.back T.Tape.cells F.Finisher.says self.now) (reads class) }
+        ensures { read_as result ≡ answer (view_of P.back T.cells F.says self.now) (reads class) }
     {
         if class >= self.table.classes() {
             Err(refuse(Cause::NoSuchClass(class)))
@@ -182,7 +182,7 @@ impl<P: Plan, T: Tape, F: Finisher> Station<P, T, F> {
 
     /// The units granted, spent and held.
     pub fn balance(&self) -> Balance
-        ensures { balance_as result ≡ answer (view_of P.Plan.back T.Tape.cells F.Finisher.says self.now) balances }
+        ensures { balance_as result ≡ answer (view_of P.back T.cells F.says self.now) balances }
     {
         Balance {
             grant: self.account.grant(),

@@ -74,10 +74,10 @@ impl Lane {
         requires back { back ≤ steps }
         requires small { count ≤ 1000 }
         requires bounded { Bounded steps self.old }
-        ensures lane { lane_of (steps + 1) self.new ≡ served_by (F.Finisher.says finisher.old) class (advance back (lane_of steps self.old) count (first_of (T.Tape.cells tape.old))) }
+        ensures lane { lane_of (steps + 1) self.new ≡ served_by (F.says finisher.old) class (advance back (lane_of steps self.old) count (first_of (T.cells tape.old))) }
         ensures bounded { Bounded (steps + 1) self.new }
-        ensures drawn { T.Tape.cells tape.new ≡ undrawn (T.Tape.cells tape.old) }
-        ensures finished { F.Finisher.says finisher.new ≡ after (finishes class (release (advance back (lane_of steps self.old) count (first_of (T.Tape.cells tape.old))))) (F.Finisher.says finisher.old) }
+        ensures drawn { T.cells tape.new ≡ undrawn (T.cells tape.old) }
+        ensures finished { F.says finisher.new ≡ after (finishes class (release (advance back (lane_of steps self.old) count (first_of (T.cells tape.old))))) (F.says finisher.old) }
     {
         let cell = tape.draw().unwrap_or(0);
         self.advance(steps, back, count, cell);
@@ -126,11 +126,11 @@ fn serve_all<T: Tape, F: Finisher>(
     requires room { steps < 1024 }
     requires back { back ≤ steps }
     requires small { All (λ n. n ≤ 1000) row.now }
-    requires enough { (length row.now ≤ 8) × (length row.now ≤ length lanes.old) × (length row.now ≤ length (T.Tape.cells tape.old)) }
+    requires enough { (length row.now ≤ 8) × (length row.now ≤ length lanes.old) × (length row.now ≤ length (T.cells tape.old)) }
     requires bounded { AllBounded steps lanes.old }
-    ensures lanes { lanes_of (length row.now) (steps + 1) lanes.new ≡ published_by (F.Finisher.says finisher.old) (advance_all back (lanes_of (length row.now) steps lanes.old) row.now (take (length row.now) (T.Tape.cells tape.old))) }
-    ensures drawn { T.Tape.cells tape.new ≡ drop (length row.now) (T.Tape.cells tape.old) }
-    ensures finished { F.Finisher.says finisher.new ≡ says_after (F.Finisher.says finisher.old) 0 (map release (advance_all back (lanes_of (length row.now) steps lanes.old) row.now (take (length row.now) (T.Tape.cells tape.old)))) }
+    ensures lanes { lanes_of (length row.now) (steps + 1) lanes.new ≡ published_by (F.says finisher.old) (advance_all back (lanes_of (length row.now) steps lanes.old) row.now (take (length row.now) (T.cells tape.old))) }
+    ensures drawn { T.cells tape.new ≡ drop (length row.now) (T.cells tape.old) }
+    ensures finished { F.says finisher.new ≡ says_after (F.says finisher.old) 0 (map release (advance_all back (lanes_of (length row.now) steps lanes.old) row.now (take (length row.now) (T.cells tape.old)))) }
     ensures bounded { AllBounded (steps + 1) lanes.new }
 {
     for class in 0..row.len() {
@@ -206,11 +206,11 @@ impl Table {
         requires back { back ≤ self.old.steps }
         requires whole { length row.now ≡ self.old.classes }
         requires small { All (λ n. n ≤ 1000) row.now }
-        requires enough { self.old.classes ≤ length (T.Tape.cells tape.old) }
+        requires enough { self.old.classes ≤ length (T.cells tape.old) }
         ensures numbers { (self.new.classes ≡ self.old.classes) × (self.new.steps ≡ self.old.steps + 1) }
-        ensures lanes { lanes_of self.old.classes (self.old.steps + 1) self.new.lanes ≡ published_by (F.Finisher.says finisher.old) (advance_all back (lanes_of self.old.classes self.old.steps self.old.lanes) row.now (take self.old.classes (T.Tape.cells tape.old))) }
-        ensures drawn { T.Tape.cells tape.new ≡ drop self.old.classes (T.Tape.cells tape.old) }
-        ensures finished { F.Finisher.says finisher.new ≡ says_after (F.Finisher.says finisher.old) 0 (map release (advance_all back (lanes_of self.old.classes self.old.steps self.old.lanes) row.now (take self.old.classes (T.Tape.cells tape.old)))) }
+        ensures lanes { lanes_of self.old.classes (self.old.steps + 1) self.new.lanes ≡ published_by (F.says finisher.old) (advance_all back (lanes_of self.old.classes self.old.steps self.old.lanes) row.now (take self.old.classes (T.cells tape.old))) }
+        ensures drawn { T.cells tape.new ≡ drop self.old.classes (T.cells tape.old) }
+        ensures finished { F.says finisher.new ≡ says_after (F.says finisher.old) 0 (map release (advance_all back (lanes_of self.old.classes self.old.steps self.old.lanes) row.now (take self.old.classes (T.cells tape.old)))) }
     {
         serve_all(
             &mut self.lanes,

@@ -8,4 +8,4 @@ use Rattle.plan.proofs.DyadicPlan.breadth.Goals as goal
 pub returns-then-k-le-HORIZON : goal.returns-then-k-le-HORIZON
 returns-then-k-le-HORIZON c =
     let log = c.ilog2.ensures in
-    sym (asked c.args.k _ (omega arith) ∙ halves-breadth dyadic dyadic-halves c.ilog2.result c.args.k log.power_le log.next-power-gt)
+    sym (asked c.args.k _ (omega arith) ∙ halves-breadth dyadic dyadic-halves c.ilog2.result c.args.k log.power_le log.next_power_gt)

@@ -8,7 +8,7 @@ use Rattle.plan.proofs.DyadicPlan.depth.Goals as goal
 pub returns-then-k-le-HORIZON : goal.returns-then-k-le-HORIZON
 returns-then-k-le-HORIZON c =
     let log = c.ilog2.ensures in
-    sym (asked c.args.k _ (omega arith) ∙ halves-depth dyadic dyadic-halves c.ilog2.result c.args.k log.power_le log.next-power-gt)
+    sym (asked c.args.k _ (omega arith) ∙ halves-depth dyadic dyadic-halves c.ilog2.result c.args.k log.power_le log.next_power_gt)
 
 pub returns-else-k-gt0 : goal.returns-else-k-gt0
 returns-else-k-gt0 c = sym (depth-none dyadic c.args.k (omega arith))

@@ -1,6 +1,6 @@
 use Rattle.std.proofs.Common.{sym, ◌∙◌, arith}
 use Rattle.plan.proofs.Asked.{asked}
-use Rattle.plan.proofs.Singles.{single-breadth}
+use Rattle.plan.specs.Singles.{single-breadth}
 use Rattle.plan.proofs.SinglePlan.breadth.Goals as goal
 
 pub returns-then-k-le-HORIZON : goal.returns-then-k-le-HORIZON

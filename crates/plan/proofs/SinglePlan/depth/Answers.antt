@@ -1,7 +1,7 @@
 use Rattle.std.proofs.Common.{sym, ◌∙◌, arith}
 use Rattle.plan.specs.Known.{single}
 use Rattle.plan.proofs.Asked.{asked, depth-none}
-use Rattle.plan.proofs.Singles.{single-depth}
+use Rattle.plan.specs.Singles.{single-depth}
 use Rattle.plan.proofs.SinglePlan.depth.Goals as goal
 
 pub returns-then-k-le-HORIZON : goal.returns-then-k-le-HORIZON

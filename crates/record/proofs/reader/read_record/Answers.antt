@@ -2,7 +2,7 @@ use Rattle.std.proofs.Common.{◌≡◌, ℕ, ◌-◌, ◌<◌, ◌≤◌, List,
 use Rattle.std.proofs.ByRecursion.{All-from_get_or}
 use Rattle.record.specs.Little.{field}
 use Rattle.record.specs.Kinds.{bytes_of}
-use Rattle.record.specs.Seen.{borrows}
+use Rattle.record.specs.Seen.{Borrows}
 use Rattle.record.proofs.Numbers.{field-2}
 use Rattle.record.proofs.SameBytes.{same_bytes}
 use Rattle.record.proofs.Whole.{answer-cut, body-cut, rest-cut}
@@ -17,4 +17,4 @@ returns-else-length-tail c =
     let value = c.unpack.ensures.value ∙ sym (answer-cut c.args.bytes.now _ _ h e f l) in
     let rest = sym (rest-cut c.args.bytes.now _ _ h e f l) in
     let all = All-from_get_or (λ b. b < 256) c.args.bytes.now 0 (λ i _. (c.type-inv.bytes i).fits) in
-    record { value = value; rest = rest; borrowed = subst (λ (xs : List ℕ). borrows c.unpack.result xs) (body-cut c.args.bytes.now _ _ h e f l) c.unpack.ensures.borrowed; same_bytes = λ x q. ap (λ (tail : List ℕ). bytes_of x ++ tail) rest ∙ same_bytes c.args.bytes.now all x (sym value ∙ q) }
+    record { value = value; rest = rest; borrowed = subst (λ (xs : List ℕ). Borrows c.unpack.result xs) (body-cut c.args.bytes.now _ _ h e f l) c.unpack.ensures.borrowed; same_bytes = λ x q. ap (λ (tail : List ℕ). bytes_of x ++ tail) rest ∙ same_bytes c.args.bytes.now all x (sym value ∙ q) }
