@@ -12,7 +12,6 @@ use record::{Reading, Record, read_record};
 use station::Setting;
 use std::io;
 use tape::{ByteTape, Tape};
-use text::FaultText;
 use watch::Watch;
 
 mod watch;
@@ -88,7 +87,7 @@ fn watch_all<T: Tape + Drop>(
 }
 
 fn told(rt: &HostRuntime, fault: Fault) -> anyhow::Error {
-    match format!(in rt.alloc(); "{}", FaultText(fault)) {
+    match format!(in rt.alloc(); "{fault}") {
         Ok(text) => text.into(),
         Err(error) => error.into(),
     }

@@ -10,7 +10,6 @@ use record::{Reading, Record, Row};
 use station::{Balance, Closed, Hold, Setting, Station};
 use std::io;
 use tape::Tape;
-use text::FaultText;
 
 /// The most counts of a row.
 const CLASSES: usize = 8;
@@ -77,7 +76,7 @@ impl<T: Tape + Drop> Watch<T> {
 
     fn refuse(&mut self, rt: &impl Print, fault: Fault) -> io::Result<()> {
         self.totals.refusals = self.totals.refusals.saturating_add(1);
-        println!(rt; "{}", FaultText(fault))
+        println!(rt; "{fault}")
     }
 
     fn open(&mut self, rt: &impl Print, horizon: u16) -> io::Result<()> {
@@ -192,7 +191,7 @@ fn end_epoch<T: Tape>(
         }
         Err((fault, hold)) => {
             let _ = hold.write_off();
-            println!(rt; "end  {}", FaultText(fault))
+            println!(rt; "end  {fault}")
         }
     }
 }

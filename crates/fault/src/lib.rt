@@ -5,6 +5,8 @@
 ghost use Rattle.std.specs.Prelude.{◌≡◌};
 ghost use Rattle.fault.specs.Told.{number_of, layer_of, place_of};
 
+use std::fmt;
+
 /// The layer that refuses.
 #[derive(Clone, Copy, Debug)]
 pub enum Layer {
@@ -121,4 +123,55 @@ impl Cause {
 pub struct Fault {
     pub cause: Cause,
     pub layer: Layer,
+}
+
+impl fmt::Display for Layer {
+    fn fmt<W: fmt::Write>(&self, f: &mut fmt::Formatter<W>) -> fmt::Result {
+        match self {
+            Layer::Record => f.write_str("record"),
+            Layer::Station => f.write_str("station"),
+            Layer::Account => f.write_str("account"),
+            Layer::Plan => f.write_str("plan"),
+            Layer::Tape => f.write_str("tape"),
+            Layer::Finisher => f.write_str("finisher"),
+            Layer::Publication => f.write_str("publication"),
+        }
+    }
+}
+
+impl fmt::Display for Cause {
+    fn fmt<W: fmt::Write>(&self, f: &mut fmt::Formatter<W>) -> fmt::Result {
+        match self {
+            Cause::OutOfRange(n) => write!(f, "{n} is out of range"),
+            Cause::AlreadyOpen(n) => write!(f, "epoch {n} is still open"),
+            Cause::Horizon(n) => write!(f, "a horizon of {n} is not from 1 to 1024"),
+            Cause::SerialsUsedUp => f.write_str("all 65535 serials are used up"),
+            Cause::OverBudget(n) => write!(f, "{n} units are more than are free"),
+            Cause::NoEpoch => f.write_str("no epoch is open"),
+            Cause::RowLength(n) => write!(
+                f,
+                "a row of {n} counts does not fit the station's classes"
+            ),
+            Cause::CountTooLarge(n) => write!(f, "the count of class {n} is above 1000"),
+            Cause::EpochFull(n) => write!(f, "all {n} steps of the epoch are taken"),
+            Cause::TapeShort(n) => write!(f, "{n} cells left on the tape are too few"),
+            Cause::WrongHold(n) => write!(f, "the hold on epoch {n} is not the open epoch's"),
+            Cause::NoSuchClass(n) => write!(f, "there is no class {n}"),
+            Cause::NothingPublished => f.write_str("nothing has been published yet"),
+            Cause::CutShort(n) => write!(f, "the record is cut short after {n} bytes"),
+            Cause::KindNotAllowed(n) => write!(f, "a record of kind {n} is not allowed here"),
+            Cause::LengthUnfit(n) => write!(f, "a length of {n} does not suit the record's kind"),
+            Cause::NoRoom(n) => write!(f, "{n} bytes left for output are too few"),
+        }
+    }
+}
+
+impl fmt::Display for Fault {
+    fn fmt<W: fmt::Write>(&self, f: &mut fmt::Formatter<W>) -> fmt::Result {
+        let number = self.cause.number();
+        let place = self.cause.place();
+        let layer = self.layer;
+        let cause = self.cause;
+        write!(f, "refusal {number}, {layer} layer, place {place}: {cause}")
+    }
 }

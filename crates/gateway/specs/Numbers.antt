@@ -1,6 +1,6 @@
 -- What publishing answers as a plain number.
 use Rattle.std.specs.Prelude.{ℕ, cond, List, ltb, length}
-use Rattle.publishing.specs.Publishing.{least_room, publication}
+use Rattle.publishing.specs.Whole.{least_room, publication}
 
 -- the publication's length, or 0 where the output is refused
 abbrev pub bytes_written : List ℕ → List ℕ → ℕ → ℕ

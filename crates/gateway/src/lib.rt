@@ -3,7 +3,7 @@
 #![tactic(auto)]
 
 ghost use Rattle.std.specs.Prelude.{◌≡◌, length};
-ghost use Rattle.publishing.specs.Publishing.{output_with};
+ghost use Rattle.publishing.specs.Whole.{output_with};
 ghost use Rattle.gateway.specs.Numbers.{bytes_written};
 
 use publishing::publish;

@@ -8,7 +8,6 @@ ghost use Rattle.listing.specs.Totals.{counted, goes_on, plus, totals};
 
 use record::{Reading, read_record};
 use std::io;
-use text::{FaultText, RecordText};
 
 /// What a listing came to: records read, faults met, and the bytes that both take up.
 #[derive(Clone, Copy)]
@@ -45,9 +44,9 @@ impl Summary {
 
 fn show(rt: &impl Print, at: usize, reading: &Reading<'_>) -> io::Result<()> {
     match reading {
-        Reading::Found(record) => println!(rt; "at {at}: {}", RecordText(*record)),
+        Reading::Found(record) => println!(rt; "at {at}: {record}"),
         Reading::Nothing => Ok(()),
-        Reading::Faulty(fault) => println!(rt; "at {at}: {}", FaultText(*fault)),
+        Reading::Faulty(fault) => println!(rt; "at {at}: {fault}"),
     }
 }
 

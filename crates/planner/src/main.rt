@@ -13,7 +13,6 @@ use plan::{Chosen, Plan, cover_of};
 use sketch::{Step, course_of, horizon_by_number};
 use std::{env, io};
 use tape::{ByteTape, Tape};
-use text::FaultText;
 
 /// The most bytes that are read.
 const MOST: usize = 32_768;
@@ -80,7 +79,7 @@ fn horizon_of(rt: &HostRuntime, word: &str) -> anyhow::Result<u16>
 }
 
 fn told(rt: &HostRuntime, fault: Fault) -> anyhow::Error {
-    match format!(in rt.alloc(); "{}", FaultText(fault)) {
+    match format!(in rt.alloc(); "{fault}") {
         Ok(text) => text.into(),
         Err(error) => error.into(),
     }

@@ -39,17 +39,13 @@ impl InWork {
         size.saturating_sub(self.written)
     }
 
-    /// Adds a record behind those that are written: opened, published, closed or refused. Another kind is refused, and
-    /// then what the record's writer refuses, with nothing stored; the publication is handed back then.
+    /// Adds a record behind those that are written. Refused as by the record's writer, with nothing stored; the
+    /// publication is handed back then.
     pub fn add(self, out: &mut [u8], entry: &Record<'_>) -> Result<InWork, (Fault, InWork)>
-        ensures answer { added_as result ≡ added_with self.written (entry_of entry.now) (length out.old) }
+        ensures answer { added_as result ≡ written_with self.written (entry_of entry.now) (length out.old) }
         ensures count { Counted self result }
-        ensures after { out.new ≡ output_added self.written (entry_of entry.now) out.old }
+        ensures after { out.new ≡ output_with self.written (entry_of entry.now) out.old }
     {
-        let kind = entry.kind();
-        if kind < 33 || kind > 36 {
-            return Err((not_taken(kind), self));
-        }
         let at = self.written.min(out.len());
         match entry.write(&mut out[at..]) {
             Ok(size) => {
@@ -61,6 +57,20 @@ impl InWork {
             }
             Err(fault) => Err((fault, self)),
         }
+    }
+
+    /// Takes a record that answers an event: opened, published, closed or refused. Another kind is refused, with nothing
+    /// stored and the publication handed back; these are added as by `add`.
+    pub fn take(self, out: &mut [u8], entry: &Record<'_>) -> Result<InWork, (Fault, InWork)>
+        ensures answer { added_as result ≡ added_with self.written (entry_of entry.now) (length out.old) }
+        ensures count { Counted self result }
+        ensures after { out.new ≡ output_added self.written (entry_of entry.now) out.old }
+    {
+        let kind = entry.kind();
+        if kind < 33 || kind > 36 {
+            return Err((not_taken(kind), self));
+        }
+        self.add(out, entry)
     }
 
     /// Adds the refused record of a fault that an event record met. Places and event numbers that 32 bits cannot hold are
@@ -81,14 +91,11 @@ impl InWork {
         ensures after { out.new ≡ output_with self.written (ended self.records) out.old }
     {
         let entry = end_record(self.records);
-        let at = self.written.min(out.len());
-        match entry.write(&mut out[at..]) {
-            Ok(size) => {
-                let _ = self.give_up();
-                let written = at + size;
-                Ok(Ended { written })
-            }
-            Err(fault) => Err((fault, self)),
+        match self.add(out, &entry) {
+            Ok(whole) => Ok(Ended {
+                written: whole.give_up(),
+            }),
+            Err(refused) => Err(refused),
         }
     }
 

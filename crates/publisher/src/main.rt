@@ -7,7 +7,6 @@ use anyhow::anyhow;
 use input::{read_all, read_tape};
 use publishing::publish;
 use std::io::Write;
-use text::FaultText;
 
 /// The most bytes that are read of the events, and of the tape.
 const MOST: usize = 32_768;
@@ -28,6 +27,6 @@ fn run(rt: &HostRuntime) -> anyhow::Result<()> {
             rt.stdout().write_all(&out[0..written])?;
             Ok(())
         }
-        Err(fault) => Err(anyhow!(format!(in rt.alloc(); "{}", FaultText(fault))?)),
+        Err(fault) => Err(anyhow!(format!(in rt.alloc(); "{fault}")?)),
     }
 }

@@ -7,7 +7,7 @@ use Rattle.fault.specs.Told.{Told}
 use Rattle.station.specs.Answers.{read_as}
 use Rattle.std.specs.List.{range_with_len}
 use Rattle.record.specs.Kinds.{Entry, published, tally_in}
-use Rattle.publishing.specs.Publishing.{published_counts, record_of_published}
+use Rattle.publishing.specs.Whole.{published_counts, record_of_published}
 use Rattle.runs.specs.Model as station
 
 told-by : (r : Option Told) (s : station.Station) (call : station.Call) (t : Told) → station.refused t ≡ station.answer_by r s call → r ≡ Some t

@@ -10,7 +10,7 @@ use Rattle.publication.specs.declared.event.Stage.TheVariants.{Later}
 use Rattle.publication.specs.declared.work.InWork.{InWork}
 use Rattle.station.specs.declared.hold.Hold.{Hold}
 use Rattle.runs.specs.Model as station
-use Rattle.publishing.specs.Publishing.{bytes_in, closed_record, closing_of, given, least_room, next_in, record_for, records_from, reply_of, rest_in, station_by}
+use Rattle.publishing.specs.Whole.{bytes_in, closed_record, closing_of, given, least_room, next_in, record_for, records_from, reply_of, rest_in, station_by}
 use Rattle.publishing.specs.Replies.{FewCounts, Kept}
 use Rattle.publishing.specs.Written.{Wrote}
 use Rattle.publishing.proofs.Few.{few-event}

@@ -9,7 +9,7 @@ use Rattle.record.specs.Little.{spread}
 use Rattle.record.specs.Writes.{number_of_counts}
 use Rattle.record.proofs.Digits.{length-spread}
 use Rattle.runs.specs.Model as station
-use Rattle.publishing.specs.Publishing.{closed_record, misplaced, opened_record, record_of_published, record_for, reply_of, unless}
+use Rattle.publishing.specs.Whole.{closed_record, misplaced, opened_record, record_of_published, record_for, reply_of, unless}
 
 -- what the writer of records asks of an entry
 pub record Fits (e : Entry) : Type 0 where

@@ -6,7 +6,7 @@ use Rattle.record.specs.Reads.{announced, faulty, rest_after}
 use Rattle.publication.specs.Events.{event_in}
 use Rattle.publication.specs.declared.event.Stage.TheVariants.{Later}
 use Rattle.runs.specs.Model.{tell}
-use Rattle.publishing.specs.Publishing.{least_room, next_in, rest_in}
+use Rattle.publishing.specs.Whole.{least_room, next_in, rest_in}
 
 module _ (bs : List ℕ) (left : ℕ) where
   pub next-looked : least_room ≤ left → event_in Later bs ≡ next_in left bs

@@ -7,7 +7,7 @@ use Rattle.record.specs.Writes.{number_of_counts, output_after, put, write_of}
 use Rattle.record.proofs.Written.{write-accepts, output-accepted}
 use Rattle.publication.specs.Works.{capped, grown, output_with, written_with}
 use Rattle.publication.specs.declared.work.InWork.{InWork}
-use Rattle.publishing.specs.Publishing.{bytes_in, whole}
+use Rattle.publishing.specs.Whole.{bytes_in, whole}
 use Rattle.publishing.specs.Written.{Wrote}
 
 -- a record that fits behind the bytes that are written

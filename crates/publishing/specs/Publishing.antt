@@ -1,9 +1,9 @@
--- A publication: which records a sequence of event bytes gives, with a tape and so many bytes of output.
-use Rattle.std.specs.Prelude.{ℕ, zero, suc, ◌+◌, ◌-◌, Bool, true, false, cond, not, ◌&&◌, List, [], ◌∷◌, ◌++◌, map, length, drop, ℤ, Some, None, Ok, Err, Option, Result, ◌==◌, nat_le, nat_lt}
-use Rattle.std.specs.List.{range_with_len}
+-- A publication: which records a sequence of event bytes gives, with a tape and so many bytes of room. An output with less
+-- room than an event record asks for is refused as a whole; what is defined here is of an output with at least that much.
+use Rattle.std.specs.Prelude.{ℕ, zero, suc, ◌+◌, ◌-◌, Bool, true, false, cond, not, ◌&&◌, List, [], ◌∷◌, ◌++◌, map, length, ℤ, Some, None, Option, ◌==◌, nat_le, nat_lt}
 use Rattle.fault.specs.Told.{Told}
-use Rattle.record.specs.Kinds.{Entry, set_up, opening, stepping, closing, opened, published, closed, refused, ended, kind_of, bytes_of}
-use Rattle.record.specs.Reads.{Answer, found, nothing, faulty, announced, rest_after}
+use Rattle.record.specs.Kinds.{Entry, set_up, opening, stepping, closing, opened, published, closed, refused, ended, bytes_of}
+use Rattle.record.specs.Reads.{Answer, found, nothing, faulty, rest_after}
 use Rattle.tape.specs.Tapes.{byte_cells}
 use Rattle.plan.specs.Known.{single, dyadic}
 use Rattle.finisher.specs.Kinds.{plain, none_held, rising}
@@ -11,170 +11,126 @@ use Rattle.publication.specs.Events.{event_in}
 use Rattle.publication.specs.Works.{capped, refused_by}
 use Rattle.publication.specs.declared.event.Stage.TheVariants.{First, Later}
 use Rattle.runs.specs.Model as station
-use Rattle.runs.specs.Model.{tell}
 
--- an event record is looked at only with this much room in the output
+-- an event record is looked at only with this much room
 abbrev pub least_room : ℕ
 least_room = 120
 
--- a kind of record that may not stand here
-abbrev pub misplaced : Entry → Told
-misplaced e = tell 17 1 (kind_of e)
+-- The first event record
 
--- The set-up
-
--- what it is refused for, in the order in which it is looked at
+-- what a set-up is refused for, in the order in which it is looked at
 abbrev pub set_up_checks : ℕ → ℕ → ℕ → List (Bool × Told)
 set_up_checks classes plan grant =
-    (not (nat_le 1 classes && nat_le classes 8), tell 1 2 classes)
-    ∷ (not (plan == 1) && not (plan == 2), tell 1 4 plan)
-    ∷ (nat_lt 1000000 grant, tell 1 3 grant)
+    (not (nat_le 1 classes && nat_le classes 8), station.tell 1 2 classes)
+    ∷ (not (plan == 1) && not (plan == 2), station.tell 1 4 plan)
+    ∷ (nat_lt 1000000 grant, station.tell 1 3 grant)
     ∷ []
 
-abbrev pub back_for : ℕ → ℕ → ℕ
-back_for plan = cond (plan == 1) single dyadic
+abbrev pub back_of : ℕ → ℕ → ℕ
+back_of plan = cond (plan == 1) single dyadic
 
--- the station that it makes, on the cells of a tape
 abbrev pub station_for : ℕ → ℕ → ℕ → ℕ → List ℤ → station.Station
 station_for number classes plan grant cells =
-    station.made (record { number = number; classes = classes; grant = grant }) (back_for plan) cells (rising plain none_held)
+    station.made (record { number = number; classes = classes; grant = grant }) (back_of plan) cells (rising plain none_held)
 
--- The records of an epoch, by the station
+-- What an event does: it stops the publication by a refusal, or goes on with a record or none and with a station
 
--- the newest published counts, as a read of each class answers them
+pub data Outcome : Type 0 where
+  stops : Told → Outcome
+  goes : List Entry → Option station.Station → Outcome
+
 abbrev pub published_counts : station.Station → List ℤ
-published_counts s = map (λ class. (station.lane_at s class).published) (range_with_len 0 s.setting.classes)
+published_counts s = map (λ (lane : station.Lane). lane.published) s.lanes
 
-abbrev pub opened_record : station.Station → Entry
-opened_record s = opened s.serial (station.epoch_of s.phase) (station.units_of s.phase)
+-- the record that answers a call, by the station after it; reads and balances give none, and stand here with an end
+abbrev pub record_of : station.Station → station.Answer → ℕ → Entry
+record_of s (station.opened number serial) event = opened serial (station.epoch_of s.phase) (station.units_of s.phase)
+record_of s (station.stepped step) event = published s.serial step (published_counts s)
+record_of s (station.closed steps units) event = closed s.serial steps units
+record_of s (station.published count) event = ended 0
+record_of s (station.balance grant spent held) event = ended 0
+record_of s (station.refused told) event = refused_by told event
 
-abbrev pub record_of_published : station.Station → Entry
-record_of_published s = published s.serial s.steps (published_counts s)
+-- a call of the station, answered by one record
+abbrev pub served : station.Station → station.Call → ℕ → Outcome
+served s call event = goes (record_of (station.next s call) (station.answer s call) event ∷ []) (Some (station.next s call))
 
-abbrev pub closed_record : station.Station → Entry
-closed_record s = closed s.serial s.steps (station.units_spent s)
+-- a refusal that does not stop
+abbrev pub passed : Told → ℕ → station.Station → Outcome
+passed told event s = goes (refused_by told event ∷ []) (Some s)
 
--- A later event record: a call of the station
+abbrev pub on_set_up : Option Told → station.Station → Outcome
+on_set_up (Some told) s = stops told
+on_set_up None s = goes [] (Some s)
 
--- a record, unless the call is refused
-abbrev pub unless : Option Told → Entry → Result Entry Told
-unless None e = Ok e
-unless (Some told) e = Err told
+-- the first event record, with the cells of the tape; only a set-up is found there
+abbrev pub first_event : List ℤ → Answer → Outcome
+first_event cells (found (set_up number classes plan grant)) =
+    on_set_up (station.first_told (set_up_checks classes plan grant)) (station_for number classes plan grant cells)
+first_event cells (found (opening t)) = stops (station.tell 17 1 2)
+first_event cells (found (stepping cs)) = stops (station.tell 17 1 3)
+first_event cells (found closing) = stops (station.tell 17 1 4)
+first_event cells (found (opened e t h)) = stops (station.tell 17 1 33)
+first_event cells (found (published e t cs)) = stops (station.tell 17 1 34)
+first_event cells (found (closed e t s)) = stops (station.tell 17 1 35)
+first_event cells (found (refused n l p e)) = stops (station.tell 17 1 36)
+first_event cells (found (ended n)) = stops (station.tell 17 1 37)
+first_event cells nothing = goes [] None
+first_event cells (faulty told) = stops told
 
--- the close of the epoch that is open here
-abbrev pub close_here : station.Station → station.Call
-close_here s = station.closes s.setting.number s.serial
+-- a later one, where only opens, steps and closes are found. A close record closes the open epoch
+abbrev pub later_event : station.Station → ℕ → Answer → Outcome
+later_event s event (found (opening t)) = served s (station.opens t) event
+later_event s event (found (stepping cs)) = served s (station.steps cs) event
+later_event s event (found closing) =
+    cond (station.is_open s.phase) (served s (station.closes s.setting.number s.serial) event) (passed (station.tell 6 2 0) event s)
+later_event s event (found (set_up n k p g)) = passed (station.tell 17 1 1) event s
+later_event s event (found (opened e t h)) = passed (station.tell 17 1 33) event s
+later_event s event (found (published e t cs)) = passed (station.tell 17 1 34) event s
+later_event s event (found (closed e t u)) = passed (station.tell 17 1 35) event s
+later_event s event (found (refused n l p e)) = passed (station.tell 17 1 36) event s
+later_event s event (found (ended n)) = passed (station.tell 17 1 37) event s
+later_event s event nothing = goes [] (Some s)
+later_event s event (faulty told) = cond (told.number == 16) (stops told) (passed told event s)
 
--- the record that answers it, or its refusal. A close record is refused as a step is where no epoch is open
-abbrev pub reply_of : station.Station → Entry → Result Entry Told
-reply_of s (opening t) = unless (station.refusal s (station.opens t)) (opened_record (station.next s (station.opens t)))
-reply_of s (stepping cs) = unless (station.refusal s (station.steps cs)) (record_of_published (station.next s (station.steps cs)))
-reply_of s closing = cond (station.is_open s.phase) (Ok (closed_record s)) (Err (tell 6 2 0))
-reply_of s (set_up n k p g) = Err (misplaced (set_up n k p g))
-reply_of s (opened e t h) = Err (misplaced (opened e t h))
-reply_of s (published e t cs) = Err (misplaced (published e t cs))
-reply_of s (closed e t u) = Err (misplaced (closed e t u))
-reply_of s (refused n l p e) = Err (misplaced (refused n l p e))
-reply_of s (ended n) = Err (misplaced (ended n))
-
--- the station after it
-abbrev pub station_after : station.Station → Entry → station.Station
-station_after s (opening t) = station.next s (station.opens t)
-station_after s (stepping cs) = station.next s (station.steps cs)
-station_after s closing = station.next s (close_here s)
-station_after s (set_up n k p g) = s
-station_after s (opened e t h) = s
-station_after s (published e t cs) = s
-station_after s (closed e t u) = s
-station_after s (refused n l p e) = s
-station_after s (ended n) = s
-
--- The records of a publication
-
--- what is next in event bytes, with so much room: with too little, a refusal
-abbrev pub next_in : ℕ → List ℕ → Answer
-next_in room bs = cond (nat_lt room least_room) (faulty (tell 19 7 room)) (event_in Later bs)
-
--- the event bytes after it. Too little room and a record that is cut short are stops: no event follows
-abbrev pub rest_in : ℕ → List ℕ → List ℕ
-rest_in room bs = cond (nat_lt room least_room) [] (cond (nat_le (announced bs) (length bs)) (rest_after bs) [])
-
--- the record for a reply to an event, by the event's number
-abbrev pub record_for : ℕ → Result Entry Told → Entry
-record_for event (Ok e) = e
-record_for event (Err told) = refused_by told event
-
--- what an event gives, and the station after it
-abbrev pub given : ℕ → station.Station → Answer → List Entry
-given event s nothing = []
-given event s (found e) = record_for event (reply_of s e) ∷ []
-given event s (faulty told) = refused_by told event ∷ []
-
-abbrev pub station_by : station.Station → Answer → station.Station
-station_by s nothing = s
-station_by s (found e) = station_after s e
-station_by s (faulty told) = s
+-- The whole
 
 -- an epoch that is open at the end is closed
 abbrev pub closing_of : station.Station → List Entry
-closing_of s = cond (station.is_open s.phase) (closed_record s ∷ []) []
+closing_of s =
+    cond (station.is_open s.phase) (record_of (station.next s (station.closes s.setting.number s.serial)) (station.answer s (station.closes s.setting.number s.serial)) 0 ∷ []) []
 
 -- the bytes of records, one after the other
 abbrev pub bytes_in : List Entry → List ℕ
 bytes_in [] = []
 bytes_in (e ∷ es) = bytes_of e ++ bytes_in es
 
--- records, and then those that follow with the room that they leave
-abbrev pub and_then : List Entry → ℕ → (ℕ → List Entry) → List Entry
-and_then es room more = es ++ more (room - length (bytes_in es))
+-- a stop, or what goes on with less room
+abbrev pub records_by : ℕ → ℕ → station.Station → Outcome → (ℕ → station.Station → List Entry) → List Entry
+records_by room event s (stops told) more = refused_by told event ∷ closing_of s
+records_by room event s (goes es (Some t)) more = es ++ more (room - length (bytes_in es)) t
+records_by room event s (goes es None) more = es
 
--- the records from an event on, with so much room: at most n events. Each takes four bytes or more, or is a stop, so as
--- many as there are bytes are enough
+-- the records from an event on, with so many bytes of room: at most n events. Before one is read, too little room stops
 abbrev pub records_from : ℕ → ℕ → ℕ → station.Station → List ℕ → List Entry
-records_from zero room event s bs = closing_of s
-records_from (suc n) room event s bs =
-    cond (length bs == 0) (closing_of s)
-    (and_then (given event s (next_in room bs)) room (λ left. records_from n left (suc event) (station_by s (next_in room bs)) (rest_in room bs)))
+records_from zero room event s rest = closing_of s
+records_from (suc n) room event s rest =
+    cond (length rest == 0) (closing_of s)
+    (cond (nat_lt room least_room) (refused_by (station.tell 19 7 room) event ∷ closing_of s)
+    (records_by room event s (later_event s event (event_in Later rest)) (λ less t. records_from n less (suc event) t (rest_after rest))))
 
--- those after a set-up that is refused, or is not
-abbrev pub records_after : Option Told → ℕ → station.Station → List ℕ → List Entry
-records_after (Some told) room s bs = refused_by told 1 ∷ []
-records_after None room s bs = records_from (length bs) room 2 s bs
-
--- a first event record that is refused gives its refusal, and an accepted set-up nothing
-abbrev pub records_first : Answer → ℕ → List ℤ → List ℕ → List Entry
-records_first nothing room cells bs = []
-records_first (faulty told) room cells bs = refused_by told 1 ∷ []
-records_first (found (set_up number classes plan grant)) room cells bs =
-    records_after (station.first_told (set_up_checks classes plan grant)) room (station_for number classes plan grant cells) bs
-records_first (found (opening t)) room cells bs = refused_by (misplaced (opening t)) 1 ∷ []
-records_first (found (stepping cs)) room cells bs = refused_by (misplaced (stepping cs)) 1 ∷ []
-records_first (found closing) room cells bs = refused_by (misplaced closing) 1 ∷ []
-records_first (found (opened e t h)) room cells bs = refused_by (misplaced (opened e t h)) 1 ∷ []
-records_first (found (published e t cs)) room cells bs = refused_by (misplaced (published e t cs)) 1 ∷ []
-records_first (found (closed e t u)) room cells bs = refused_by (misplaced (closed e t u)) 1 ∷ []
-records_first (found (refused n l p e)) room cells bs = refused_by (misplaced (refused n l p e)) 1 ∷ []
-records_first (found (ended n)) room cells bs = refused_by (misplaced (ended n)) 1 ∷ []
+-- the first event record makes the station, or stops
+abbrev pub records_after_first : ℕ → List ℕ → Outcome → List Entry
+records_after_first room events (stops told) = refused_by told 1 ∷ []
+records_after_first room events (goes es None) = []
+records_after_first room events (goes es (Some s)) = records_from (length events) room 2 s (rest_after events)
 
 -- all records but the last
 abbrev pub records : List ℕ → List ℕ → ℕ → List Entry
-records events tape room = records_first (event_in First events) room (byte_cells tape) (rest_after events)
+records events tape room =
+    cond (length events == 0) [] (records_after_first room events (first_event (byte_cells tape) (event_in First events)))
 
--- The publication
-
--- records and the end record with their number
-abbrev pub whole : List Entry → List ℕ
-whole es = bytes_in es ++ bytes_of (ended (capped (length es)))
-
+-- the publication: those, and the end record with their number
 abbrev pub publication : List ℕ → List ℕ → ℕ → List ℕ
-publication events tape size = whole (records events tape size)
-
--- what publishing answers with so many bytes of output: the bytes written, or a refusal
-abbrev pub publishing : List ℕ → List ℕ → ℕ → Result ℕ Told
-publishing events tape size = cond (nat_lt size least_room) (Err (tell 19 7 size)) (Ok (length (publication events tape size)))
-
--- the output then: the publication at its start, and what stood behind it
-abbrev pub output_with : List ℕ → List ℕ → List ℕ → List ℕ
-output_with events tape out =
-    cond (nat_lt (length out) least_room) out
-    (publication events tape (length out) ++ drop (length (publication events tape (length out))) out)
+publication events tape room =
+    bytes_in (records events tape room) ++ bytes_of (ended (capped (length (records events tape room))))

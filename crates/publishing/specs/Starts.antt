@@ -11,7 +11,7 @@ use Rattle.runs.specs.Model as station
 use Rattle.station.specs.View.{lawful_of}
 use Rattle.station.specs.declared.Setting.{Setting}
 use Rattle.publishing.specs.declared.first.Start.{Start}
-use Rattle.publishing.specs.Publishing.{records_first, records_from}
+use Rattle.publishing.specs.Whole.{records_first, records_from}
 
 -- the records by a setting and a plan, or a refusal
 abbrev pub records_set_up : Result Start Fault → ℕ → List ℤ → List ℕ → List Entry

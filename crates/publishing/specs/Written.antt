@@ -4,7 +4,7 @@ use Rattle.record.specs.Kinds.{Entry}
 use Rattle.record.specs.Writes.{put}
 use Rattle.publication.specs.Works.{capped}
 use Rattle.publication.specs.declared.work.InWork.{InWork}
-use Rattle.publishing.specs.Publishing.{bytes_in}
+use Rattle.publishing.specs.Whole.{bytes_in}
 
 -- a publication and its output, before and after some records
 pub record Wrote (es : List Entry) (work : InWork) (out : List ℕ) (then : InWork) (done : List ℕ) : Type 0 where

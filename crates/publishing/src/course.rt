@@ -7,7 +7,7 @@ ghost use Rattle.record.specs.Seen.{entry_of, seen};
 ghost use Rattle.record.specs.Writes.{number_of_counts};
 ghost use Rattle.publication.specs.Works.{refused_by};
 ghost use Rattle.station.specs.View.{view_of};
-ghost use Rattle.publishing.specs.Publishing.{bytes_in, closing_of, given, next_in, record_for, records_from, reply_of, rest_in, station_after, station_by};
+ghost use Rattle.publishing.specs.Whole.{bytes_in, closing_of, given, next_in, record_for, records_from, reply_of, rest_in, station_after, station_by};
 ghost use Rattle.publishing.specs.Replies.{FewCounts, Kept, is_step};
 ghost use Rattle.publishing.specs.Written.{Wrote};
 

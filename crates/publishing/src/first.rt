@@ -4,7 +4,7 @@ ghost use Rattle.std.specs.Prelude.{◌≡◌, ℕ, ◌+◌, ◌^◌, ◌<◌, �
 ghost use Rattle.fault.specs.Told.{told};
 ghost use Rattle.record.specs.Reads.{found};
 ghost use Rattle.record.specs.Seen.{entry_of};
-ghost use Rattle.publishing.specs.Publishing.{records, records_first};
+ghost use Rattle.publishing.specs.Whole.{records, records_first};
 ghost use Rattle.publishing.specs.Starts.{SetUpBy, records_set_up};
 ghost use Rattle.publishing.specs.Written.{Wrote};
 

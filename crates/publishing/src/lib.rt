@@ -4,8 +4,9 @@
 
 ghost use Rattle.std.specs.Prelude.{◌≡◌, ◌≤◌, length, IfOk};
 ghost use Rattle.fault.specs.Told.{answered};
+ghost use Rattle.publishing.specs.Cases.{WorkedWhole};
 ghost use Rattle.publishing.specs.Examples.{WorkedPublication};
-ghost use Rattle.publishing.specs.Publishing.{output_with, publishing};
+ghost use Rattle.publishing.specs.Whole.{output_with, publishing};
 
 use events::{LEAST_ROOM, no_room};
 use fault::Fault;
@@ -26,7 +27,7 @@ pub fn publish(events: &[u8], tape: &[u8], out: &mut [u8]) -> Result<usize, Faul
     ensures answer { answered result ≡ publishing events.now tape.now (length out.old) }
     ensures after { out.new ≡ output_with events.now tape.now out.old }
     ensures within { IfOk result (λ n. n ≤ length out.new) }
-    ensures worked { WorkedPublication }
+    ensures worked { WorkedWhole }
 {
     if out.len() < LEAST_ROOM {
         return Err(no_room(out.len()));
@@ -34,3 +35,8 @@ pub fn publish(events: &[u8], tape: &[u8], out: &mut [u8]) -> Result<usize, Faul
     let work = answer_events(events, tape, InWork::new(), out);
     Ok(end_publication(work, out))
 }
+
+/// Asks the prover for the worked publication.
+pub fn worked_publication_stands()
+    ensures { WorkedPublication }
+{}

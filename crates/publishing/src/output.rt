@@ -6,7 +6,7 @@ ghost use Rattle.record.specs.Kinds.{bytes_of, ended, kind_of};
 ghost use Rattle.record.specs.Seen.{entry_of};
 ghost use Rattle.record.specs.Writes.{number_of_counts, put};
 ghost use Rattle.publication.specs.Works.{refused_by};
-ghost use Rattle.publishing.specs.Publishing.{record_for};
+ghost use Rattle.publishing.specs.Whole.{record_for};
 ghost use Rattle.publishing.specs.Replies.{replied_as};
 ghost use Rattle.publishing.specs.Written.{Wrote};
 
@@ -23,7 +23,7 @@ pub(crate) fn put_record(work: InWork, out: &mut [u8], entry: &Record<'_>) -> In
     requires room { work.written + length (bytes_of (entry_of entry.now)) ≤ length out.old }
     ensures { Wrote (entry_of entry.now ∷ []) work out.old result out.new }
 {
-    match work.add(out, entry) {
+    match work.take(out, entry) {
         Ok(more) => more,
         Err((_, same)) => same,
     }

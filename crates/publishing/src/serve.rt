@@ -12,7 +12,7 @@ ghost use Rattle.runs.specs.Model.{lane_at};
 ghost use Rattle.fault.specs.Told.{told};
 ghost use Rattle.station.specs.Answers.{station_fault};
 ghost use Rattle.station.specs.View.{view_of};
-ghost use Rattle.publishing.specs.Publishing.{misplaced as out-of-place, record_of_published, record_for, reply_of, station_after};
+ghost use Rattle.publishing.specs.Whole.{misplaced as out-of-place, record_of_published, record_for, reply_of, station_after};
 ghost use Rattle.publishing.specs.Replies.{Kept, is_step, replied_as};
 ghost use Rattle.publishing.specs.Written.{Wrote};
 

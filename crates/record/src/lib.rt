@@ -6,6 +6,7 @@
 mod fields;
 mod kinds;
 mod reader;
+mod text;
 mod writer;
 
 pub use kinds::{Record, Row, Tally};

@@ -24,9 +24,9 @@ loop-at-preserved g c =
     let low : 1 ≤ at = c.loop-at-test.true in
     let high : at ≤ horizon = omega arith in
     let room : c.loop-at.count < length c.loop-at.steps = omega arith in
-    let back : c.back-step-at.result ≡ p at = back_is p at c.back-step-at.result low high c.back-step-at.ensures in
+    let back : c.back_step-at.result ≡ p at = back_is p at c.back_step-at.result low high c.back_step-at.ensures in
     let less : p at < at = falls at low high in
-    (omega arith, simp length-set c.loop-at.invariant.1, cover-more p horizon falls c.loop-at.steps (cover_asked p c.args.t) c.loop-at.count at c.back-step-at.result low high room back c.loop-at.invariant.2)
+    (omega arith, simp length-set c.loop-at.invariant.1, cover-more p horizon falls c.loop-at.steps (cover_asked p c.args.t) c.loop-at.count at c.back_step-at.result low high room back c.loop-at.invariant.2)
 
 pub returns : goal.returns
 returns g c =

@@ -2,8 +2,8 @@ use Rattle.std.proofs.Common.{◌≡◌, ℕ, ◌≤◌, Bool, cond, List, ◌++
 use Rattle.std.proofs.lemmas.Bool.{le-ltb, lt-ltb}
 use Rattle.fault.specs.Told.{Told, told}
 use Rattle.runs.specs.Model.{tell}
-use Rattle.publishing.specs.Publishing.{least_room, publication, records}
-use Rattle.publishing.proofs.Worked.{worked-publication}
+use Rattle.publishing.specs.Whole.{least_room, publication, records}
+use Rattle.publishing.proofs.Worked.{worked-whole}
 use Rattle.publishing.proofs.Writing.{whole_long, whole-output}
 use Rattle.publishing.proofs.publish.Goals as goal
 
@@ -25,7 +25,7 @@ returns-then-out-lt-LEAST-ROOM c =
       answer = ap (λ (t : Told). Err t) c.no-room.ensures ∙ sym (ap (answer-by events tape (length out)) small);
       after = sym (ap (output-by events tape out) small);
       within = tt;
-      worked = worked-publication;
+      worked = worked-whole;
     }
 
 pub returns : goal.returns
@@ -43,5 +43,5 @@ returns c =
       answer = ap (λ (n : ℕ). Ok n) (c.end-publication.ensures.size ∙ long) ∙ sym (ap (answer-by events tape (length out)) large);
       after = done ∙ sym (ap (output-by events tape out) large);
       within = let size = c.end-publication.ensures.size in let room = c.answer-events-work.ensures.room in let last : length c.end-publication.new.out ≡ length c.answer-events-work.new.out = search rules in omega arith;
-      worked = worked-publication;
+      worked = worked-whole;
     }

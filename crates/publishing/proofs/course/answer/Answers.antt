@@ -5,7 +5,7 @@ use Rattle.record.specs.Reads.{Answer}
 use Rattle.record.specs.Seen.{entry_of, seen}
 use Rattle.record.specs.declared.reader.Reading.{Reading}
 use Rattle.station.specs.View.{view_of}
-use Rattle.publishing.specs.Publishing.{bytes_in, given, record_for, reply_of, station_by}
+use Rattle.publishing.specs.Whole.{bytes_in, given, record_for, reply_of, station_by}
 use Rattle.publishing.specs.Replies.{FewCounts}
 use Rattle.publishing.specs.Written.{Wrote}
 use Rattle.publishing.proofs.Writing.{wrote_none}

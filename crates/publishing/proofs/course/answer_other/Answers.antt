@@ -3,7 +3,7 @@ use Rattle.fault.specs.Told.{Told}
 use Rattle.record.specs.Kinds.{Entry, bytes_of}
 use Rattle.record.specs.Seen.{entry_of}
 use Rattle.station.specs.View.{view_of}
-use Rattle.publishing.specs.Publishing.{record_for}
+use Rattle.publishing.specs.Whole.{record_for}
 use Rattle.publishing.proofs.Rooms.{Fits, reply-fits}
 use Rattle.publishing.proofs.course.answer_other.Goals as goal
 

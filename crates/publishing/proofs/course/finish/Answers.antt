@@ -3,7 +3,7 @@ use Rattle.record.specs.Kinds.{Entry}
 use Rattle.runs.specs.Model as model
 use Rattle.station.specs.View.{view_of}
 use Rattle.station.specs.declared.hold.Hold.{Hold}
-use Rattle.publishing.specs.Publishing.{closed_record, closing_of}
+use Rattle.publishing.specs.Whole.{closed_record, closing_of}
 use Rattle.publishing.specs.Replies.{OnEpoch}
 use Rattle.publishing.specs.Written.{Wrote}
 use Rattle.publishing.proofs.Writing.{wrote_none}

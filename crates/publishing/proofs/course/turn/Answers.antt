@@ -8,7 +8,7 @@ use Rattle.publication.proofs.Events.{none-taken, some-taken}
 use Rattle.runs.specs.Model.{tell}
 use Rattle.station.specs.View.{view_of}
 use Rattle.station.specs.declared.hold.Hold.{Hold}
-use Rattle.publishing.specs.Publishing.{bytes_in, given, least_room, station_by}
+use Rattle.publishing.specs.Whole.{bytes_in, given, least_room, station_by}
 use Rattle.publishing.specs.Replies.{FewCounts, Kept}
 use Rattle.publishing.specs.Written.{Wrote}
 use Rattle.publishing.proofs.Few.{few-event}

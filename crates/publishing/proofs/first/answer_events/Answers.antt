@@ -2,7 +2,7 @@ use Rattle.std.proofs.Common.{◌≡◌, length, sym, ap, ◌∙◌, subst, arit
 use Rattle.record.specs.Reads.{Answer, nothing, rest_after}
 use Rattle.record.specs.Seen.{seen}
 use Rattle.tape.specs.Tapes.{byte_cells}
-use Rattle.publishing.specs.Publishing.{records_first}
+use Rattle.publishing.specs.Whole.{records_first}
 use Rattle.publishing.specs.Written.{Wrote}
 use Rattle.publishing.proofs.Writing.{wrote_none}
 use Rattle.publishing.proofs.first.answer_events.Goals as goal

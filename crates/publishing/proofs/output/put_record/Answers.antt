@@ -7,7 +7,7 @@ use Rattle.publishing.proofs.output.put_record.Goals as goal
 
 pub returns-in-Ok : goal.returns-in-Ok
 returns-in-Ok c =
-    wrote_one (entry_of c.args.entry.now) c.args.work c.in-Ok.more c.args.out.now c.add.new.out
+    wrote_one (entry_of c.args.entry.now) c.args.work c.in-Ok.more c.args.out.now c.take.new.out
     c.requires.some c.requires.few c.requires.room
     (c.in-Ok.ensures.answer ∙ sym (added-taken (entry_of c.args.entry.now) c.requires.kind.0 c.requires.kind.1 c.args.work.written (length c.args.out.now)))
     c.in-Ok.ensures.count

@@ -1,7 +1,7 @@
 use Rattle.std.proofs.Common.{[], ◌∷◌, Result, sym, subst}
 use Rattle.fault.specs.declared.Fault.{Fault}
 use Rattle.publishing.specs.declared.reply.Reply.{Reply}
-use Rattle.publishing.specs.Publishing.{record_for}
+use Rattle.publishing.specs.Whole.{record_for}
 use Rattle.publishing.specs.Replies.{replied_as}
 use Rattle.publishing.specs.Written.{Wrote}
 use Rattle.publishing.proofs.output.put_reply.Goals as goal

@@ -3,7 +3,7 @@ use Rattle.fault.specs.Told.{Told, told}
 use Rattle.runs.specs.Model as model
 use Rattle.station.specs.View.{view_of}
 use Rattle.station.specs.declared.Station.{Station}
-use Rattle.publishing.specs.Publishing.{unless, opened_record}
+use Rattle.publishing.specs.Whole.{unless, opened_record}
 use Rattle.publishing.specs.Replies.{Kept}
 use Rattle.publishing.proofs.Calls.{refusal-told}
 use Rattle.publishing.proofs.serve.open_epoch.Goals as goal

@@ -6,7 +6,7 @@ use Rattle.record.specs.Seen.{entry_of}
 use Rattle.record.specs.Writes.{number_of_counts}
 use Rattle.runs.specs.Model as model
 use Rattle.station.specs.View.{view_of}
-use Rattle.publishing.specs.Publishing.{record_of_published}
+use Rattle.publishing.specs.Whole.{record_of_published}
 use Rattle.publishing.proofs.Calls.{published-is}
 use Rattle.publishing.proofs.serve.put_published.Goals as goal
 

@@ -5,7 +5,7 @@ use Rattle.record.specs.Kinds.{Entry, bytes_of, row_in, stepping}
 use Rattle.publication.specs.Works.{refused_by}
 use Rattle.runs.specs.Model as model
 use Rattle.station.specs.View.{view_of}
-use Rattle.publishing.specs.Publishing.{record_of_published, record_for, reply_of, unless}
+use Rattle.publishing.specs.Whole.{record_of_published, record_for, reply_of, unless}
 use Rattle.publishing.specs.Written.{Wrote}
 use Rattle.publishing.proofs.Calls.{refusal-none, refusal-told}
 use Rattle.publishing.proofs.serve.take_step.Goals as goal

@@ -1,39 +1,38 @@
 //! Records as text: the kind by its name, then the fields in decimal.
 
-use record::{Record, Row, Tally};
+use crate::kinds::{Record, Row, Tally};
 use std::fmt;
 
-/// A record, as it is shown.
-#[derive(Clone, Copy)]
-pub struct RecordText<'a>(pub Record<'a>);
-
-impl fmt::Display for RecordText<'_> {
+impl fmt::Display for Row<'_> {
     fn fmt<W: fmt::Write>(&self, f: &mut fmt::Formatter<W>) -> fmt::Result {
-        let entry = &self.0;
-        match entry {
+        for class in 0..self.len() {
+            if let Some(count) = self.get(class) {
+                write!(f, " {count}")?;
+            }
+        }
+        Ok(())
+    }
+}
+
+impl fmt::Display for Tally<'_> {
+    fn fmt<W: fmt::Write>(&self, f: &mut fmt::Formatter<W>) -> fmt::Result {
+        for class in 0..self.len() {
+            if let Some(count) = self.get(class) {
+                write!(f, " {count}")?;
+            }
+        }
+        Ok(())
+    }
+}
+
+impl fmt::Display for Record<'_> {
+    fn fmt<W: fmt::Write>(&self, f: &mut fmt::Formatter<W>) -> fmt::Result {
+        match self {
             Record::SetUp { .. } | Record::Open { .. } | Record::Step { .. } | Record::Close =>
-                show_event(entry, f),
-            _ => show_published(entry, f),
+                show_event(self, f),
+            _ => show_published(self, f),
         }
     }
-}
-
-fn show_row<W: fmt::Write>(row: &Row<'_>, f: &mut fmt::Formatter<W>) -> fmt::Result {
-    for class in 0..row.len() {
-        if let Some(count) = row.get(class) {
-            write!(f, " {count}")?;
-        }
-    }
-    Ok(())
-}
-
-fn show_tally<W: fmt::Write>(tally: &Tally<'_>, f: &mut fmt::Formatter<W>) -> fmt::Result {
-    for class in 0..tally.len() {
-        if let Some(count) = tally.get(class) {
-            write!(f, " {count}")?;
-        }
-    }
-    Ok(())
 }
 
 /// The records that a plant sends.
@@ -49,10 +48,7 @@ fn show_event<W: fmt::Write>(event: &Record<'_>, f: &mut fmt::Formatter<W>) -> f
             "set-up: station {station}, classes {classes}, plan {plan}, grant {grant}"
         ),
         Record::Open { horizon } => write!(f, "open: horizon {horizon}"),
-        Record::Step { row } => {
-            f.write_str("step: counts")?;
-            show_row(row, f)
-        }
+        Record::Step { row } => write!(f, "step: counts{row}"),
         _ => f.write_str("close"),
     }
 }
@@ -72,10 +68,7 @@ fn show_published<W: fmt::Write>(entry: &Record<'_>, f: &mut fmt::Formatter<W>) 
             serial,
             step,
             tally,
-        } => {
-            write!(f, "published: serial {serial}, step {step}, counts")?;
-            show_tally(tally, f)
-        }
+        } => write!(f, "published: serial {serial}, step {step}, counts{tally}"),
         Record::Closed {
             serial,
             steps,
