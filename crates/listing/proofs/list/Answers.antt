@@ -5,17 +5,17 @@ use Rattle.listing.proofs.list.Goals as goal
 pub loop-rest-init : goal.loop-rest-init
 loop-rest-init g c = (left-start c.args.bytes.now, omega arith, omega arith)
 
-pub overflow-sub-rest : goal.overflow-sub-rest
-overflow-sub-rest g c =
-    subst (λ (xs : List ℕ). length xs ≤ length c.loop-rest.rest.now) (sym c.read-record.ensures.rest) (rest_le c.loop-rest.rest.now)
+pub overflow_sub-rest : goal.overflow_sub-rest
+overflow_sub-rest g c =
+    subst (λ (xs : List ℕ). length xs ≤ length c.loop-rest.rest.now) (sym c.read_record.ensures.rest) (rest_le c.loop-rest.rest.now)
 
 pub loop-rest-smaller : goal.loop-rest-smaller
 loop-rest-smaller g c =
-    turn-less c.loop-rest.summary _ c.loop-rest.rest.now c.read-record.result.1.now c.args.bytes.now _ c.read-record.ensures.value c.read-record.ensures.rest c.if-not-add.ensures.after c.if-not-add.ensures.value
+    turn-less c.loop-rest.summary _ c.loop-rest.rest.now c.read_record.result.1.now c.args.bytes.now _ c.read_record.ensures.value c.read_record.ensures.rest c.if-not-add.ensures.after c.if-not-add.ensures.value
 
 pub loop-rest-preserved : goal.loop-rest-preserved
 loop-rest-preserved g c =
-    turn_more c.loop-rest.summary _ c.loop-rest.rest.now c.read-record.result.1.now c.args.bytes.now _ c.read-record.ensures.value c.read-record.ensures.rest c.if-not-add.ensures.after c.if-not-add.ensures.value c.loop-rest.invariant
+    turn_more c.loop-rest.summary _ c.loop-rest.rest.now c.read_record.result.1.now c.args.bytes.now _ c.read_record.ensures.value c.read_record.ensures.rest c.if-not-add.ensures.after c.if-not-add.ensures.value c.loop-rest.invariant
 
 pub returns-after-loop-rest : goal.returns-after-loop-rest
 returns-after-loop-rest g c =
@@ -24,4 +24,4 @@ returns-after-loop-rest g c =
 pub returns-then-not-add : goal.returns-then-not-add
 returns-then-not-add g c =
     let h : 0 < length c.loop-rest.rest.now = search rules in
-    turn-stop c.loop-rest.summary _ c.loop-rest.rest.now c.read-record.result.1.now c.args.bytes.now _ c.read-record.ensures.value c.read-record.ensures.rest c.if-not-add.ensures.after h c.if-not-add.ensures.value c.loop-rest.invariant
+    turn-stop c.loop-rest.summary _ c.loop-rest.rest.now c.read_record.result.1.now c.args.bytes.now _ c.read_record.ensures.value c.read_record.ensures.rest c.if-not-add.ensures.after h c.if-not-add.ensures.value c.loop-rest.invariant

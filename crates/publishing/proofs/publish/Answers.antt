@@ -14,15 +14,15 @@ answer-by events tape size small = cond small (Err (tell 19 7 size)) (Ok (length
 output-by : List ℕ → List ℕ → List ℕ → Bool → List ℕ
 output-by events tape out small = cond small out (publication events tape (length out) ++ drop (length (publication events tape (length out))) out)
 
-pub returns-then-out-lt-LEAST-ROOM : goal.returns-then-out-lt-LEAST-ROOM
+pub returns-then-out-lt-LEAST_ROOM : goal.returns-then-out-lt-LEAST_ROOM
 unfolding answer-by output-by
-returns-then-out-lt-LEAST-ROOM c =
+returns-then-out-lt-LEAST_ROOM c =
     let events = c.args.events.now in
     let tape = c.args.tape.now in
     let out = c.args.out.now in
-    let small = lt-ltb (length out) least_room c.if-out-lt-LEAST-ROOM.true in
+    let small = lt-ltb (length out) least_room c.if-out-lt-LEAST_ROOM.true in
     record {
-      answer = ap (λ (t : Told). Err t) c.no-room.ensures ∙ sym (ap (answer-by events tape (length out)) small);
+      answer = ap (λ (t : Told). Err t) c.no_room.ensures ∙ sym (ap (answer-by events tape (length out)) small);
       after = sym (ap (output-by events tape out) small);
       within = tt;
       worked = worked-whole;
@@ -34,14 +34,14 @@ returns c =
     let events = c.args.events.now in
     let tape = c.args.tape.now in
     let out = c.args.out.now in
-    let large = le-ltb (length out) least_room c.if-out-lt-LEAST-ROOM.false in
+    let large = le-ltb (length out) least_room c.if-out-lt-LEAST_ROOM.false in
     let es = records events tape (length out) in
-    let kept : length c.answer-events-work.new.out ≡ length c.args.out.now = search rules in
-    let long = whole_long es c.new.result c.answer-events-work.result out c.answer-events-work.new.out c.end-publication.new.out c.new.ensures.0 c.new.ensures.1 c.answer-events-work.ensures.wrote c.answer-events-work.ensures.room kept c.end-publication.ensures.after in
-    let done = whole-output es c.new.result c.answer-events-work.result out c.answer-events-work.new.out c.end-publication.new.out c.new.ensures.0 c.new.ensures.1 c.answer-events-work.ensures.wrote c.answer-events-work.ensures.room kept c.end-publication.ensures.after in
+    let kept : length c.answer_events-work.new.out ≡ length c.args.out.now = search rules in
+    let long = whole_long es c.new.result c.answer_events-work.result out c.answer_events-work.new.out c.end_publication.new.out c.new.ensures.0 c.new.ensures.1 c.answer_events-work.ensures.wrote c.answer_events-work.ensures.room kept c.end_publication.ensures.after in
+    let done = whole-output es c.new.result c.answer_events-work.result out c.answer_events-work.new.out c.end_publication.new.out c.new.ensures.0 c.new.ensures.1 c.answer_events-work.ensures.wrote c.answer_events-work.ensures.room kept c.end_publication.ensures.after in
     record {
-      answer = ap (λ (n : ℕ). Ok n) (c.end-publication.ensures.size ∙ long) ∙ sym (ap (answer-by events tape (length out)) large);
+      answer = ap (λ (n : ℕ). Ok n) (c.end_publication.ensures.size ∙ long) ∙ sym (ap (answer-by events tape (length out)) large);
       after = done ∙ sym (ap (output-by events tape out) large);
-      within = let size = c.end-publication.ensures.size in let room = c.answer-events-work.ensures.room in let last : length c.end-publication.new.out ≡ length c.answer-events-work.new.out = search rules in omega arith;
+      within = let size = c.end_publication.ensures.size in let room = c.answer_events-work.ensures.room in let last : length c.end_publication.new.out ≡ length c.answer_events-work.new.out = search rules in omega arith;
       worked = worked-whole;
     }

@@ -18,8 +18,8 @@ push-requires g c =
     let (same, _, _, steps, _) = c.loop-done.invariant in
     let n = c.loop-done.course.count in
     let room : n < horizon = omega (arith, same, c.loop-done-test.true, c.min-done-end.ensures) in
-    let back : c.back-step.result ≡ back_asked p (n + 1) = rw same c.back-step.ensures in
-    let less : c.back-step.result ≤ n = earlier p cells _ n steps falls room _ back in
+    let back : c.back_step.result ≡ back_asked p (n + 1) = rw same c.back_step.ensures in
+    let less : c.back_step.result ≤ n = earlier p cells _ n steps falls room _ back in
     record {
       room = room;
       earlier = less;
@@ -37,7 +37,7 @@ loop-done-preserved g c =
     let fits : SFits w32 cell = search rules in
     let drew : Ok cell ≡ drawn (g.T.Tape.cells c.loop-done.tape) = sym c.in-Ok.is ∙ c.draw.ensures.answer in
     let room : n < horizon = omega (arith, same, c.loop-done-test.true, c.min-done-end.ensures) in
-    let back : c.back-step.result ≡ back_asked p (n + 1) = rw same c.back-step.ensures in
+    let back : c.back_step.result ≡ back_asked p (n + 1) = rw same c.back_step.ensures in
     let goes : n < length cells = draw-goes cells _ n left cell drew in
     rw (c.push.ensures.count, c.push.ensures.steps) (
       omega (arith, same),
@@ -47,12 +47,12 @@ loop-done-preserved g c =
       length-set _ n _ ∙ size,
     )
 
-pub returns-in-default : goal.returns-in-default
-returns-in-default g c =
+pub returns-in_default : goal.returns-in_default
+returns-in_default g c =
     let cells = g.T.Tape.cells c.args.tape.now in
     let (same, few, left, steps, _) = c.loop-done.invariant in
     let n = c.loop-done.course.count in
-    let refused : Err c.in-default.field-0 ≡ drawn (g.T.Tape.cells c.loop-done.tape) = sym c.in-default.is ∙ c.draw.ensures.answer in
+    let refused : Err c.in_default.field-0 ≡ drawn (g.T.Tape.cells c.loop-done.tape) = sym c.in_default.is ∙ c.draw.ensures.answer in
     let ended : length cells ≤ n = draw-ends cells _ n left _ refused in
     record {
       count = omega (arith, same, few, c.loop-done-test.true, c.min-done-end.ensures);

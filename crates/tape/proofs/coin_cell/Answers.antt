@@ -4,17 +4,17 @@ use Rattle.std.proofs.lemmas.Int.{ints, to_z-of_z}
 use Rattle.tape.proofs.Cells.{eight-coins, less-32}
 use Rattle.tape.proofs.coin_cell.Goals as goal
 
-pub overflow-cast-result : goal.overflow-cast-result
-overflow-cast-result c = record { sfits = omega (arith, ones-le 64 c.from-le-bytes.result c.from-le-bytes.type-inv) }
+pub overflow_cast-result : goal.overflow_cast-result
+overflow_cast-result c = record { sfits = omega (arith, ones-le 64 c.from_le_bytes.result c.from_le_bytes.type_inv) }
 
-pub overflow-sub-result : goal.overflow-sub-result
-overflow-sub-result c =
-    omega (arith, ints, ones-le 64 c.from-le-bytes.result c.from-le-bytes.type-inv)
+pub overflow_sub-result : goal.overflow_sub-result
+overflow_sub-result c =
+    omega (arith, ints, ones-le 64 c.from_le_bytes.result c.from_le_bytes.type_inv)
 
 pub returns : goal.returns
 returns c =
-    to_z-of_z w32 _ (overflow-sub-result c) ∙ less-32 c.from-le-bytes.result c.from-le-bytes.type-inv
+    to_z-of_z w32 _ (overflow_sub-result c) ∙ less-32 c.from_le_bytes.result c.from_le_bytes.type_inv
     ∙ ap (λ n. pos n -ℤ pos 32)
-    (ap ones c.from-le-bytes.ensures
+    (ap ones c.from_le_bytes.ensures
     ∙ eight-coins (get_or c.args.eight 0 0) (get_or c.args.eight 1 0) (get_or c.args.eight 2 0) (get_or c.args.eight 3 0) (get_or c.args.eight 4 0) (get_or c.args.eight 5 0) (get_or c.args.eight 6 0) (get_or c.args.eight 7 0)
     (search rules) (search rules) (search rules) (search rules) (search rules) (search rules) (search rules) (search rules))

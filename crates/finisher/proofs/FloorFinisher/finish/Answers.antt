@@ -12,9 +12,9 @@ returns g c =
     let said = simp to_z-of_z at c.finish.ensures.answer in
     let said-now = simp to_z-of_z at c.finish.ensures.moved in
     let stood-now = simp to_z-of_z at c.finish.ensures.stood in
-    let top : c.max.result ≡ int_max c.in-ok-answer.answer (pos 0) = search (rules, to_z-of_z) in
+    let top : c.max.result ≡ int_max c.in_ok-answer.answer (pos 0) = search (rules, to_z-of_z) in
     let below = g.F.Finisher.says c.args.self.now.0 in
-    let ok = accepted below c.args.class c.args.release c.in-ok-answer.answer (sym c.in-ok-answer.was ∙ said) in
+    let ok = accepted below c.args.class c.args.release c.in_ok-answer.answer (sym c.in_ok-answer.was ∙ said) in
     record {
       answer =
           ap Ok (to_z-of_z w64 c.max.result fits-top ∙ top ∙ ap (λ z. int_max z (pos 0)) ok.1) ∙ answered (floored below) c.args.class c.args.release ok.0;

@@ -13,13 +13,13 @@ returns g c =
     let said = simp to_z-of_z at c.finish.ensures.answer in
     let said-now = simp to_z-of_z at c.finish.ensures.moved in
     let stood-now = simp to_z-of_z at c.finish.ensures.stood in
-    let top : c.max-top.result ≡ int_max c.in-ok-answer.answer (get_or c.args.self.now.held c.args.class (pos 0)) =
+    let top : c.max-top.result ≡ int_max c.in_ok-answer.answer (get_or c.args.self.now.held c.args.class (pos 0)) =
     search (rules, to_z-of_z) in
     let below = g.F.Finisher.says c.args.self.now.below in
     let held = c.args.self.now.held in
     let class = c.args.class in
     let release = c.args.release in
-    let ok = accepted below class release c.in-ok-answer.answer (sym c.in-ok-answer.was ∙ said) in
+    let ok = accepted below class release c.in_ok-answer.answer (sym c.in_ok-answer.was ∙ said) in
     let lt : class < length held = search rules in
     let is : to_z w64 (of_z w64 c.max-top.result) ≡ raised below held class release =
     to_z-of_z w64 c.max-top.result fits-top ∙ top ∙ ap (λ z. int_max z (get_or held class (pos 0))) ok.1 in
@@ -30,14 +30,14 @@ returns g c =
       refused = λ h. absurd (omega (arith, ok.0));
     }
 
-pub returns-in-err-answer : goal.returns-in-err-answer
-returns-in-err-answer g c =
+pub returns-in_err-answer : goal.returns-in_err-answer
+returns-in_err-answer g c =
     let fits : SFits w64 c.args.release = search rules in
     let said = simp to_z-of_z at c.finish.ensures.answer in
     let below = g.F.Finisher.says c.args.self.now.below in
     let held = c.args.self.now.held in
-    let none = refused below c.args.class c.args.release c.in-err-answer.field-0.0 (sym c.in-err-answer.was ∙ said) in
-    let out = err_from_is_err_and c.from-residual.result c.from-residual.ensures.1 in
+    let none = refused below c.args.class c.args.release c.in_err-answer.field-0.0 (sym c.in_err-answer.was ∙ said) in
+    let out = err_from_is_err_and c.from_residual.result c.from_residual.ensures.1 in
     record {
       answer = out.1 ∙ ap Err out.2 ∙ none.1 (rising below held);
       moved = λ h. absurd (omega (arith, none.0));

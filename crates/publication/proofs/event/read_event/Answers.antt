@@ -8,25 +8,25 @@ use Rattle.publication.proofs.event.read_event.Goals as goal
 pub returns-then-rest-bytes : goal.returns-then-rest-bytes
 returns-then-rest-bytes c =
     let bs = c.args.bytes.now in
-    let same : length (rest_after bs) ≡ length bs = sym (ap length c.read-record.ensures.rest) ∙ c.if-rest-bytes.true in
+    let same : length (rest_after bs) ≡ length bs = sym (ap length c.read_record.ensures.rest) ∙ c.if-rest-bytes.true in
     record {
-      value = c.read-record.ensures.value ∙ event-none bs c.args.stage (none-taken bs same);
-      rest = c.read-record.ensures.rest;
-      borrowed = c.read-record.ensures.borrowed;
+      value = c.read_record.ensures.value ∙ event-none bs c.args.stage (none-taken bs same);
+      rest = c.read_record.ensures.rest;
+      borrowed = c.read_record.ensures.borrowed;
     }
 
-pub kind-of-kind-requires : goal.kind-of-kind-requires
-kind-of-kind-requires c =
+pub kind_of-kind-requires : goal.kind_of-kind-requires
+kind_of-kind-requires c =
     let bs = c.args.bytes.now in
-    four_bytes bs (some-taken bs (λ e. c.if-rest-bytes.false (ap length c.read-record.ensures.rest ∙ e)))
+    four_bytes bs (some-taken bs (λ e. c.if-rest-bytes.false (ap length c.read_record.ensures.rest ∙ e)))
 
 pub returns : goal.returns
 returns c =
     let bs = c.args.bytes.now in
-    let whole = some-taken bs (λ e. c.if-rest-bytes.false (ap length c.read-record.ensures.rest ∙ e)) in
-    let may : allowed c.args.stage (field 2 2 bs) ≡ true = sym (c.allows.ensures ∙ ap (allowed c.args.stage) c.kind-of-kind.ensures) ∙ c.if-not-allows.false in
+    let whole = some-taken bs (λ e. c.if-rest-bytes.false (ap length c.read_record.ensures.rest ∙ e)) in
+    let may : allowed c.args.stage (field 2 2 bs) ≡ true = sym (c.allows.ensures ∙ ap (allowed c.args.stage) c.kind_of-kind.ensures) ∙ c.if-not-allows.false in
     record {
-      value = c.read-record.ensures.value ∙ event-allowed bs c.args.stage whole may;
-      rest = c.read-record.ensures.rest;
-      borrowed = c.read-record.ensures.borrowed;
+      value = c.read_record.ensures.value ∙ event-allowed bs c.args.stage whole may;
+      rest = c.read_record.ensures.rest;
+      borrowed = c.read_record.ensures.borrowed;
     }

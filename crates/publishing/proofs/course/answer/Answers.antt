@@ -11,8 +11,8 @@ use Rattle.publishing.specs.Written.{Wrote}
 use Rattle.publishing.proofs.Writing.{wrote_none}
 use Rattle.publishing.proofs.course.answer.Goals as goal
 
-pub answer-record-requires : goal.answer-record-requires
-answer-record-requires g c =
+pub answer_record-requires : goal.answer_record-requires
+answer_record-requires g c =
     let s = view_of g.P.Plan.back g.T.Tape.cells g.F.Finisher.says c.args.station.now in
     let e = entry_of c.in-Found.record in
     let room = subst (λ (r : Reading). c.args.course.work.written + length (bytes_in (given c.args.event s (seen r))) ≤ length c.args.out.now) c.in-Found.is c.requires.room in

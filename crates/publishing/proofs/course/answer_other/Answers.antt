@@ -7,11 +7,11 @@ use Rattle.publishing.specs.Whole.{record_for}
 use Rattle.publishing.proofs.Rooms.{Fits, reply-fits}
 use Rattle.publishing.proofs.course.answer_other.Goals as goal
 
-pub put-reply-work-requires : goal.put-reply-work-requires
-put-reply-work-requires g c =
+pub put_reply-work-requires : goal.put_reply-work-requires
+put_reply-work-requires g c =
     let s = view_of g.P.Plan.back g.T.Tape.cells g.F.Finisher.says c.args.station.now in
     let e = entry_of c.args.entry.now in
-    let same = sym c.reply-to-reply.ensures.reply in
+    let same = sym c.reply_to-reply.ensures.reply in
     let fits = subst (λ (r : Result Entry Told). Fits (record_for c.args.event r)) same (reply-fits c.args.event s e c.requires.few.0 c.requires.few.1) in
     record {
       some = fits.some;

@@ -15,8 +15,8 @@ returns g c =
     let station : Says → model.Station = λ says. model.made (lawful_of c.args.start.setting) (back_of c.args.start.plan) (g.T.Tape.cells c.args.tape) says in
     let same = c.new-station.ensures.made ∙ ap station c.new-finisher.ensures.says in
     let room : length c.args.out.now - c.args.work.written ≡ length c.args.out.now = omega (arith, c.requires.new) in
-    let by-station = subst (λ (s : model.Station). Wrote (records_from (length events) (length out - c.args.work.written) 2 s events) c.args.work out c.answer-rest.result c.answer-rest.new.out) same c.answer-rest.ensures.wrote in
+    let by-station = subst (λ (s : model.Station). Wrote (records_from (length events) (length out - c.args.work.written) 2 s events) c.args.work out c.answer_rest.result c.answer_rest.new.out) same c.answer_rest.ensures.wrote in
     record {
-      wrote = subst (λ (n : ℕ). Wrote (records_from (length events) n 2 (station (rising plain none_held)) events) c.args.work out c.answer-rest.result c.answer-rest.new.out) room by-station;
-      room = c.answer-rest.ensures.room;
+      wrote = subst (λ (n : ℕ). Wrote (records_from (length events) n 2 (station (rising plain none_held)) events) c.args.work out c.answer_rest.result c.answer_rest.new.out) room by-station;
+      room = c.answer_rest.ensures.room;
     }

@@ -8,5 +8,5 @@ use Rattle.publishing.proofs.output.put_reply.Goals as goal
 
 pub returns-in-Err : goal.returns-in-Err
 returns-in-Err c =
-    subst (λ (r : Result Reply Fault). Wrote (record_for c.args.event (replied_as r) ∷ []) c.args.work c.args.out.now c.put-refused.result c.put-refused.new.out)
-    (sym c.in-Err.is) c.put-refused.ensures
+    subst (λ (r : Result Reply Fault). Wrote (record_for c.args.event (replied_as r) ∷ []) c.args.work c.args.out.now c.put_refused.result c.put_refused.new.out)
+    (sym c.in-Err.is) c.put_refused.ensures

@@ -10,12 +10,12 @@ use Rattle.publishing.specs.Whole.{record_of_published}
 use Rattle.publishing.proofs.Calls.{published-is}
 use Rattle.publishing.proofs.serve.put_published.Goals as goal
 
-pub put-record-requires : goal.put-record-requires
-put-record-requires g c =
+pub put_record-requires : goal.put_record-requires
+put_record-requires g c =
     let s = view_of g.P.Plan.back g.T.Tape.cells g.F.Finisher.says c.args.station.now in
-    let is : entry_of c.published-record-entry.result ≡ record_of_published (view_of g.P.Plan.back g.T.Tape.cells g.F.Finisher.says c.args.station.now) =
-    published-is s c.args.serial c.args.step c.args.classes (8 * c.args.classes - 0) c.read-counts.new.bytes (entry_of c.published-record-entry.result)
-    c.requires.newest.0 c.requires.newest.1 c.requires.counts.2 (sub-zero (8 * c.args.classes)) c.published-record-entry.ensures c.read-counts.ensures in
+    let is : entry_of c.published_record-entry.result ≡ record_of_published (view_of g.P.Plan.back g.T.Tape.cells g.F.Finisher.says c.args.station.now) =
+    published-is s c.args.serial c.args.step c.args.classes (8 * c.args.classes - 0) c.read_counts.new.bytes (entry_of c.published_record-entry.result)
+    c.requires.newest.0 c.requires.newest.1 c.requires.counts.2 (sub-zero (8 * c.args.classes)) c.published_record-entry.ensures c.read_counts.ensures in
     let many = length-map-range_with_len (λ class. (model.lane_at (view_of g.P.Plan.back g.T.Tape.cells g.F.Finisher.says c.args.station.now) class).published) 0 s.setting.classes in
     let same = c.requires.counts.2 in
     let some : 1 ≤ number_of_counts (record_of_published (view_of g.P.Plan.back g.T.Tape.cells g.F.Finisher.says c.args.station.now)) = omega (arith, c.requires.counts.0) in

@@ -11,10 +11,10 @@ loop-class-preserved g c =
     let i = c.loop-class.class in
     let known = c.requires.known in
     let few = c.requires.few in
-    stored_more (λ class. (model.lane_at s class).published) i c.loop-class.bytes c.put-count.new.bytes c.unwrap-or-count.result
-    (omega arith) (record { sfits = c.unwrap-or-count.type-inv })
-    (c.unwrap-or-count.ensures ∙ read_count s i c.read.result (omega arith) c.requires.stepped c.read.ensures)
-    c.loop-class.invariant c.put-count.ensures
+    stored_more (λ class. (model.lane_at s class).published) i c.loop-class.bytes c.put_count.new.bytes c.unwrap_or-count.result
+    (omega arith) (record { sfits = c.unwrap_or-count.type_inv })
+    (c.unwrap_or-count.ensures ∙ read_count s i c.read.result (omega arith) c.requires.stepped c.read.ensures)
+    c.loop-class.invariant c.put_count.ensures
 
 pub returns : goal.returns
 returns g c =

@@ -11,10 +11,10 @@ use Rattle.record.proofs.reader.read_record.Goals as goal
 pub returns-else-length-tail : goal.returns-else-length-tail
 returns-else-length-tail c =
     let h : 4 ≤ length c.args.bytes.now = search rules in
-    let e : c.from-le-bytes-length.result ≡ field 0 2 c.args.bytes.now = search (rules, field-2) in
-    let f : c.from-le-bytes-kind.result ≡ field 2 2 c.args.bytes.now = search (rules, field-2) in
-    let l : c.from-le-bytes-length.result ≤ length c.args.bytes.now - 4 = search rules in
+    let e : c.from_le_bytes-length.result ≡ field 0 2 c.args.bytes.now = search (rules, field-2) in
+    let f : c.from_le_bytes-kind.result ≡ field 2 2 c.args.bytes.now = search (rules, field-2) in
+    let l : c.from_le_bytes-length.result ≤ length c.args.bytes.now - 4 = search rules in
     let value = c.unpack.ensures.value ∙ sym (answer-cut c.args.bytes.now _ _ h e f l) in
     let rest = sym (rest-cut c.args.bytes.now _ _ h e f l) in
-    let all = All-from_get_or (λ b. b < 256) c.args.bytes.now 0 (λ i _. (c.type-inv.bytes i).fits) in
+    let all = All-from_get_or (λ b. b < 256) c.args.bytes.now 0 (λ i _. (c.type_inv.bytes i).fits) in
     record { value = value; rest = rest; borrowed = subst (λ (xs : List ℕ). Borrows c.unpack.result xs) (body-cut c.args.bytes.now _ _ h e f l) c.unpack.ensures.borrowed; same_bytes = λ x q. ap (λ (tail : List ℕ). bytes_of x ++ tail) rest ∙ same_bytes c.args.bytes.now all x (sym value ∙ q) }

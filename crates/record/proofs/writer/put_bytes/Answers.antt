@@ -4,4 +4,4 @@ use Rattle.record.proofs.writer.put_bytes.Goals as goal
 
 pub returns : goal.returns
 returns c =
-    put-part c.args.at _ c.args.out.now c.args.bytes.now _ c.copy-from-slice.ensures.after (omega arith)
+    put-part c.args.at _ c.args.out.now c.args.bytes.now _ c.copy_from_slice.ensures.after (omega arith)

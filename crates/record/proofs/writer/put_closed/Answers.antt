@@ -8,6 +8,6 @@ use Rattle.record.proofs.writer.put_closed.Goals as goal
 pub returns : goal.returns
 returns c =
     record {
-      stores = c.put-epoch.ensures;
-      reads-back = reads-back (closed c.args.serial c.args.steps c.args.spent) (c.ranges.serial.fits, c.ranges.steps.fits, c.ranges.spent.fits);
+      stores = c.put_epoch.ensures;
+      reads_back = reads-back (closed c.args.serial c.args.steps c.args.spent) (c.ranges.serial.fits, c.ranges.steps.fits, c.ranges.spent.fits);
     }

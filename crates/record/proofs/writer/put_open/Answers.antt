@@ -8,6 +8,6 @@ use Rattle.record.proofs.writer.put_open.Goals as goal
 pub returns : goal.returns
 returns c =
     record {
-      stores = put-more (little 2 2 ++ little 2 2) (little 2 c.args.horizon) c.args.out.now _ _ 4 refl c.put-header.ensures c.put-u16.ensures;
-      reads-back = reads-back (opening c.args.horizon) c.ranges.horizon.fits;
+      stores = put-more (little 2 2 ++ little 2 2) (little 2 c.args.horizon) c.args.out.now _ _ 4 refl c.put_header.ensures c.put_u16.ensures;
+      reads_back = reads-back (opening c.args.horizon) c.ranges.horizon.fits;
     }

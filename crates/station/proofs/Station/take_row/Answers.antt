@@ -11,6 +11,6 @@ serve-requires g c =
     let more = c.requires.3 in
     let room : c.args.self.now.table.steps < 1024 = omega arith in
     let low = back_low (g.P.Plan.back c.args.self.now.plan) (g.met.P.Plan.falls c.args.self.now.plan) c.args.self.now.table.steps room in
-    let asked : c.back-step-back.result ≡ back_asked (g.P.Plan.back c.args.self.now.plan) (c.args.self.now.table.steps + 1) =
-    c.back-step-back.ensures ∙ ap (λ (n : ℕ). back_asked (g.P.Plan.back c.args.self.now.plan) (n + 1)) c.steps.ensures in
+    let asked : c.back_step-back.result ≡ back_asked (g.P.Plan.back c.args.self.now.plan) (c.args.self.now.table.steps + 1) =
+    c.back_step-back.ensures ∙ ap (λ (n : ℕ). back_asked (g.P.Plan.back c.args.self.now.plan) (n + 1)) c.steps.ensures in
     record { room = room; back = rw asked low; whole = c.requires.1; small = all_small c.args.row.now c.requires.2; enough = c.requires.4 }

@@ -17,7 +17,7 @@ returns-in-Ok c =
     let at : c.min-at.result ≡ w.written = omega (arith, c.min-at.ensures, fits.0, fits.1) in
     record {
       answer = ap (λ (n : ℕ). Ok (n + c.in-Ok.size)) at ∙ ap (grown w.written) ok;
-      count = c.saturating-add.ensures ∙ ap (λ (n : ℕ × ℕ). capped (n.1 + 1)) c.numbers-records.ensures;
+      count = c.saturating_add.ensures ∙ ap (λ (n : ℕ × ℕ). capped (n.1 + 1)) c.numbers-records.ensures;
       after = output-then w.written out c.min-at.result c.min-at.ensures e _ c.in-Ok.ensures.after;
     }
 

@@ -8,7 +8,7 @@ returns-in-Err c =
     let w = c.args.self in
     let out = c.args.out.now in
     record {
-      answer = c.in-Err.ensures.answer ∙ ap (λ (e : Entry). written_with w.written e (length out)) c.end-record-entry.ensures;
+      answer = c.in-Err.ensures.answer ∙ ap (λ (e : Entry). written_with w.written e (length out)) c.end_record-entry.ensures;
       handed = c.in-Err.ensures.count;
-      after = c.in-Err.ensures.after ∙ ap (λ (e : Entry). output_with w.written e out) c.end-record-entry.ensures;
+      after = c.in-Err.ensures.after ∙ ap (λ (e : Entry). output_with w.written e out) c.end_record-entry.ensures;
     }

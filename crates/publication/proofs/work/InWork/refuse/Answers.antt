@@ -8,7 +8,7 @@ returns c =
     let w = c.args.self in
     let out = c.args.out.now in
     record {
-      answer = c.add.ensures.answer ∙ ap (λ (e : Entry). written_with w.written e (length out)) c.refused-record-entry.ensures;
+      answer = c.add.ensures.answer ∙ ap (λ (e : Entry). written_with w.written e (length out)) c.refused_record-entry.ensures;
       count = c.add.ensures.count;
-      after = c.add.ensures.after ∙ ap (λ (e : Entry). output_with w.written e out) c.refused-record-entry.ensures;
+      after = c.add.ensures.after ∙ ap (λ (e : Entry). output_with w.written e out) c.refused_record-entry.ensures;
     }

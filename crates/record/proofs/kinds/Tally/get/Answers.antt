@@ -5,16 +5,16 @@ use Rattle.record.specs.Kinds.{tally_in}
 use Rattle.record.proofs.Counts.{length-tally, nth-tally}
 use Rattle.record.proofs.kinds.Tally.get.Goals as goal
 
-pub overflow-mul-class : goal.overflow-mul-class
-overflow-mul-class c = omega (arith, length-tally c.args.self.now.bytes.now)
+pub overflow_mul-class : goal.overflow_mul-class
+overflow_mul-class c = omega (arith, length-tally c.args.self.now.bytes.now)
 
-pub i64-at-requires : goal.i64-at-requires
-i64-at-requires c = omega (arith, length-tally c.args.self.now.bytes.now)
+pub i64_at-requires : goal.i64_at-requires
+i64_at-requires c = omega (arith, length-tally c.args.self.now.bytes.now)
 
 pub returns-then-class-len : goal.returns-then-class-len
 returns-then-class-len c =
-    let f : SFits w64 c.i64-at.result = search rules in
-    ap (λ (z : ℤ). Some z) (to_z-of_z w64 _ f ∙ c.i64-at.ensures) ∙ sym (nth-tally c.args.self.now.bytes.now c.args.class (omega arith))
+    let f : SFits w64 c.i64_at.result = search rules in
+    ap (λ (z : ℤ). Some z) (to_z-of_z w64 _ f ∙ c.i64_at.ensures) ∙ sym (nth-tally c.args.self.now.bytes.now c.args.class (omega arith))
 
 pub returns-else-class-len : goal.returns-else-class-len
 returns-else-class-len c = sym (slice_get_past (tally_in c.args.self.now.bytes.now) c.args.class (omega arith))

@@ -6,7 +6,7 @@ use Rattle.station.proofs.table.Lane.advance.Goals as goal
 
 pub returns : goal.returns
 returns c =
-    let sum : to_z w64 (of_z w64 (to_z w64 (of_z w64 (to_z w32 (of_z w32 c.args.cell))) +ℤ to_z w64 (of_z w64 c.noise-at-before.result))) ≡ c.args.cell +ℤ noise_after c.args.self.now.noise c.args.back =
+    let sum : to_z w64 (of_z w64 (to_z w64 (of_z w64 (to_z w32 (of_z w32 c.args.cell))) +ℤ to_z w64 (of_z w64 c.noise_at-before.result))) ≡ c.args.cell +ℤ noise_after c.args.self.now.noise c.args.back =
     let w : Within (2147483648 * c.args.back) (noise_after c.args.self.now.noise c.args.back) = noise-within c.args.steps c.args.self.now c.args.back c.requires.bounded in
     omega (arith, ints) in
     let room : c.args.steps < length c.args.self.now.noise = omega arith in
