@@ -105,10 +105,10 @@ pub fn horizon_by_number(number: u16) -> Result<u16, Fault>
 /// Draws a cell for each step from 1 on, and answers these steps with their noise. It ends with `steps`, the horizon or
 /// the last cell of the tape, whichever comes first. The laws of noise hold of every plan.
 pub fn course_of<P: Plan, T: Tape>(plan: &P, tape: &mut T, steps: u16) -> Course
-    ensures count { result.count ≡ min (min steps horizon) (length (cells tape.old)) }
-    ensures steps { take result.count result.steps ≡ steps_to (back plan.now) (cells tape.old) result.count }
-    ensures tape { cells tape.new ≡ drop result.count (cells tape.old) }
-    ensures laws { NoiseLaws (back plan.now) (cells tape.old) }
+    ensures count { result.count ≡ min (min steps horizon) (length (T.cells tape.old)) }
+    ensures steps { take result.count result.steps ≡ steps_to (P.back plan.now) (T.cells tape.old) result.count }
+    ensures tape { T.cells tape.new ≡ drop result.count (T.cells tape.old) }
+    ensures laws { NoiseLaws (P.back plan.now) (T.cells tape.old) }
 {
     let mut course = Course::new();
     for done in 0..steps.min(HORIZON) {

@@ -9,8 +9,8 @@ use Rattle.bounds.proofs.Bound.draw.Goals as goal
 pub loop-drawn-preserved : goal.loop-drawn-preserved
 loop-drawn-preserved g c =
     let left = g.T.Tape.cells c.loop-drawn.tape in
-    let k = c.args.count - (c.loop-drawn.-drawn + 1) in
-    let fewer : c.args.count - c.loop-drawn.-drawn ≡ suc (c.args.count - (c.loop-drawn.-drawn + 1)) = omega arith in
+    let k = c.args.count - (c.loop-drawn._drawn + 1) in
+    let fewer : c.args.count - c.loop-drawn._drawn ≡ suc (c.args.count - (c.loop-drawn._drawn + 1)) = omega arith in
     let size : c.unsigned_abs.result ≡ nat_abs (result_unwrap_or (drawn (g.T.Tape.cells c.loop-drawn.tape)) (pos 0)) =
     c.unsigned_abs.ensures.value
     ∙ ap nat_abs (to_z-of_z w32 c.unwrap_or-cell.result (record { sfits = c.unwrap_or-cell.type_inv }))
@@ -24,7 +24,7 @@ loop-drawn-preserved g c =
 pub returns : goal.returns
 returns g c =
     let left = g.T.Tape.cells c.loop-drawn.tape in
-    let none : c.args.count - c.loop-drawn.-drawn ≡ 0 = omega arith in
+    let none : c.args.count - c.loop-drawn._drawn ≡ 0 = omega arith in
     let size = none_left c.loop-drawn.self.largest _ left none ∙ c.loop-drawn.invariant.0 in
     record {
       largest = size;

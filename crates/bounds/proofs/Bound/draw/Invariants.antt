@@ -6,6 +6,6 @@ abbrev pub invariant-loop-drawn : goal.invariant-loop-drawn
 invariant-loop-drawn g l =
     let cells = g.T.Tape.cells l.initial.tape in
     let left = g.T.Tape.cells l.tape in
-    let more = l.count - l.-drawn in
+    let more = l.count - l._drawn in
     (greatest l.self.largest (take more left) ≡ greatest l.initial.self.largest (take l.count cells))
     × (drop more left ≡ drop l.count cells)

@@ -16,8 +16,8 @@ returns g c =
       narrow = g.T.Tape.narrow c.args.tape;
     } in
     record {
-      each-run = each-run p lawful (g.F.Finisher.stands c.args.finisher) (g.met.F.Finisher.keeps c.args.finisher);
-      paired-runs = paired-runs;
+      each_run = each-run p lawful (g.F.Finisher.stands c.args.finisher) (g.met.F.Finisher.keeps c.args.finisher);
+      paired_runs = paired-runs;
       examples = worked-examples;
       made = search rules;
     }

@@ -2,7 +2,8 @@ use Rattle.std.proofs.Common.{arith}
 use Rattle.station.proofs.table.Table.clear.Goals as goal
 
 pub invariant_of-self : goal.invariant_of-self
-invariant_of-self c = (
-  c.args.self.now.some,
-  (omega arith, (c.clear_all.ensures.bounded c.args.self.now.steps c.args.self.now.bounded, tt)),
-)
+invariant_of-self c = record {
+  some = c.args.self.now.some;
+  few = omega arith;
+  bounded = c.clear_all.ensures.bounded c.args.self.now.steps c.args.self.now.bounded;
+}
