@@ -88,7 +88,7 @@ fn watch_all<T: Tape + Drop>(
 
 fn told(rt: &HostRuntime, fault: Fault) -> anyhow::Error {
     match format!(in rt.alloc(); "{fault}") {
-        Ok(text) => text.into(),
+        Ok(text) => anyhow!(text),
         Err(error) => error.into(),
     }
 }

@@ -80,7 +80,7 @@ fn horizon_of(rt: &HostRuntime, word: &str) -> anyhow::Result<u16>
 
 fn told(rt: &HostRuntime, fault: Fault) -> anyhow::Error {
     match format!(in rt.alloc(); "{fault}") {
-        Ok(text) => text.into(),
+        Ok(text) => anyhow!(text),
         Err(error) => error.into(),
     }
 }
