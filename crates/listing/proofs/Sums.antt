@@ -1,6 +1,6 @@
 -- Totals so far, and those of what is left.
 use Rattle.std.proofs.Common.{◌≡◌, ℕ, zero, suc, ◌+◌, ◌-◌, ◌<◌, ◌≤◌, Bool, true, false, cond, eqb, leb, List, [], ◌∷◌, length, drop, sym, refl, ap, ◌∙◌, subst, add-zero, add_assoc, zero-add, arith, leb-true}
-use Rattle.std.proofs.lemmas.List.{length-drop, nil_from_length}
+use Rattle.std.proofs.lemmas.List.{length-drop}
 use Rattle.record.specs.Reads.{Answer, found, nothing, faulty, announced, answer_to, refusal, rest_after}
 use Rattle.listing.specs.declared.Summary.{Summary}
 use Rattle.listing.specs.Totals.{none, plus, counted, goes_on, totals, totals_in}

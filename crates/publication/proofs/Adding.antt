@@ -1,9 +1,9 @@
 -- A record behind those that are written.
-use Rattle.std.proofs.Common.{◌≡◌, ℕ, suc, ◌+◌, ◌-◌, ◌<◌, ◌≤◌, min, Bool, true, false, cond, ◌&&◌, leb, List, [], ◌++◌, length, take, drop, Ok, Err, Result, sym, refl, ap, ◌∙◌, subst, ⊎_elim, arith, le-leb, leb-false, leb-true}
+use Rattle.std.proofs.Common.{◌≡◌, ℕ, ◌-◌, ◌≤◌, min, Bool, true, false, cond, ◌&&◌, leb, List, [], ◌++◌, length, take, drop, Ok, Err, Result, sym, refl, ap, ◌∙◌, arith, le-leb, leb-false, leb-true}
 use borrow.Rule.Slice.PartMut.{put_mid}
-use Rattle.std.proofs.lemmas.List.{append-nil, drop_all, drop-drop, length-drop, take_all, take_rest}
+use Rattle.std.proofs.lemmas.List.{append-nil, drop_all, length-drop, take_all, take_rest}
 use Rattle.fault.specs.Told.{Told}
-use Rattle.record.specs.Kinds.{Entry, bytes_of, body_of, kind_of}
+use Rattle.record.specs.Kinds.{Entry, bytes_of, kind_of}
 use Rattle.record.specs.Writes.{number_of_counts, write_of, output_after}
 use Rattle.publication.specs.Works.{added_with, kind_not_taken, output_added, output_with, taken, written_with}
 

@@ -1,5 +1,5 @@
 -- A whole record is one that the reader takes from the bytes.
-use Rattle.std.proofs.Common.{◌≡◌, ℕ, ◌+◌, ◌<◌, ◌≤◌, Bool, true, false, cond, not, ◌&&◌, leb, List, length, drop, sym, refl, ap, ◌∙◌, arith, leb-true}
+use Rattle.std.proofs.Common.{◌≡◌, ℕ, ◌≤◌, Bool, true, false, cond, not, ◌&&◌, leb, List, length, drop, sym, refl, ap, ◌∙◌, arith, leb-true}
 use Rattle.std.proofs.lemmas.List.{length-drop}
 use Rattle.record.specs.Little.{field}
 use Rattle.record.specs.Reads.{Answer, announced, answer_to, refusal, rest_after}

@@ -1,11 +1,10 @@
 -- A record that the reader finds has one to eight counts, where its kind has counts.
-use Rattle.std.proofs.Common.{◌≡◌, ℕ, ◌-◌, ◌/◌, ◌%◌, ◌≤◌, Bool, true, false, cond, not, ◌&&◌, eqb, leb, List, length, drop, sym, refl, subst, arith}
+use Rattle.std.proofs.Common.{◌≡◌, ℕ, ◌-◌, ◌/◌, ◌%◌, ◌≤◌, Bool, true, false, cond, not, ◌&&◌, eqb, leb, List, length, drop, refl, arith}
 use Rattle.std.proofs.lemmas.List.{length-drop}
 use Rattle.std.proofs.lemmas.Bool.{and_parts, leb-true}
-use Rattle.record.specs.Kinds.{Entry, set_up, opening, stepping, closing, opened, published, closed, refused, ended, row_in, tally_in}
+use Rattle.record.specs.Kinds.{Entry, stepping, closing, published, row_in, tally_in}
 use Rattle.record.specs.Little.{field}
-use Rattle.record.specs.Reads.{Answer, announced, answer_to, body_in, decode, faulty, has_few_counts, found, nothing, refusal, suited}
-use Rattle.record.specs.Writes.{number_of_counts}
+use Rattle.record.specs.Reads.{Answer, announced, body_in, decode, has_few_counts, found, suited}
 use Rattle.record.proofs.Counts.{length-row, length-tally}
 use Rattle.publication.specs.Events.{allowed, event_in}
 use Rattle.publication.specs.declared.event.Stage.{Stage}

@@ -14,7 +14,7 @@ use Rattle.publishing.specs.Whole.{bytes_in, closed_record, closing_of, given, l
 use Rattle.publishing.specs.Replies.{FewCounts, Kept}
 use Rattle.publishing.specs.Written.{Wrote}
 use Rattle.publishing.proofs.Few.{few-event}
-use Rattle.publishing.proofs.Rooms.{Fits, reply-fits}
+use Rattle.publishing.proofs.Rooms.{reply-fits}
 use Rattle.publishing.proofs.Stops.{rest-shorter}
 use Rattle.publishing.proofs.Writing.{wrote-more, wrote_none}
 

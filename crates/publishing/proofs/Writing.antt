@@ -1,9 +1,9 @@
 -- Records added where there is room for them.
-use Rattle.std.proofs.Common.{◌≡◌, ℕ, ◌+◌, ◌-◌, ◌≤◌, List, [], ◌∷◌, ◌++◌, length, take, drop, Ok, Err, Result, sym, refl, ap, ◌∙◌, subst, add-zero, zero-add, arith}
+use Rattle.std.proofs.Common.{◌≡◌, ℕ, ◌+◌, ◌-◌, ◌≤◌, List, [], ◌∷◌, ◌++◌, length, take, drop, Ok, Err, Result, sym, refl, ap, ◌∙◌, add-zero, zero-add, arith}
 use Rattle.std.proofs.lemmas.List.{append_assoc, append-nil, drop-drop, drop_at, length-append, length-drop, length-take-le, take-append-drop, take_at}
 use Rattle.fault.specs.Told.{Told}
 use Rattle.record.specs.Kinds.{Entry, bytes_of, ended}
-use Rattle.record.specs.Writes.{number_of_counts, output_after, put, write_of}
+use Rattle.record.specs.Writes.{number_of_counts, put, write_of}
 use Rattle.record.proofs.Written.{write-accepts, output-accepted}
 use Rattle.publication.specs.Works.{capped, grown, output_with, written_with}
 use Rattle.publication.specs.declared.work.InWork.{InWork}

@@ -1,6 +1,6 @@
 -- A publication: which records a sequence of event bytes gives, with a tape and so many bytes of room. An output with less
 -- room than an event record asks for is refused as a whole; what is defined here is of an output with at least that much.
-use Rattle.std.specs.Prelude.{ℕ, zero, suc, ◌+◌, ◌-◌, Bool, true, false, cond, not, ◌&&◌, List, [], ◌∷◌, ◌++◌, map, length, ℤ, Some, None, Option, ◌==◌, nat_le, nat_lt}
+use Rattle.std.specs.Prelude.{ℕ, zero, suc, ◌-◌, Bool, cond, not, ◌&&◌, List, [], ◌∷◌, ◌++◌, map, length, ℤ, Some, None, Option, ◌==◌, nat_le, nat_lt}
 use Rattle.fault.specs.Told.{Told}
 use Rattle.record.specs.Kinds.{Entry, set_up, opening, stepping, closing, opened, published, closed, refused, ended, bytes_of}
 use Rattle.record.specs.Reads.{Answer, found, nothing, faulty, rest_after}

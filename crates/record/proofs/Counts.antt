@@ -1,5 +1,5 @@
 -- The counts of a row or a tally, one by one.
-use Rattle.std.proofs.Common.{◌≡◌, ℕ, zero, suc, ◌+◌, ◌*◌, ◌/◌, ◌^◌, ◌<◌, ◌≤◌, List, [], ◌∷◌, map, length, take, drop, ℤ, Some, None, Option, sym, refl, ap, ◌∙◌, add_comm, mul-zero, mul-suc, arith, w64, SFits, to_z, of_z}
+use Rattle.std.proofs.Common.{◌≡◌, ℕ, zero, suc, ◌*◌, ◌/◌, ◌^◌, ◌<◌, List, [], ◌∷◌, map, length, take, drop, Some, ap, ◌∙◌, add_comm, mul-zero, mul-suc, arith, w64, SFits, to_z, of_z}
 use mir.ValLaws.{to_z-Fits}
 use Rattle.std.specs.List.{AllByRecursion as All, slice_get}
 use Rattle.std.proofs.ByRecursion.{All-map, All-weaker}

@@ -1,14 +1,14 @@
 -- What the reader accepts is written as the same bytes.
-use Rattle.std.proofs.Common.{◌≡◌, ℕ, suc, ◌+◌, ◌-◌, ◌*◌, ◌/◌, ◌%◌, ◌^◌, ◌<◌, ◌≤◌, Bool, true, false, cond, ◌&&◌, eqb, leb, List, [], ◌∷◌, ◌++◌, map, length, take, drop, ℤ, sym, refl, ap, ◌∙◌, subst, mul_comm, arith, take-add, w64, to_z, of_z, eqb-true, leb-true}
+use Rattle.std.proofs.Common.{◌≡◌, ℕ, ◌+◌, ◌-◌, ◌*◌, ◌/◌, ◌%◌, ◌^◌, ◌<◌, ◌≤◌, Bool, true, false, cond, ◌&&◌, eqb, leb, List, [], ◌∷◌, ◌++◌, map, length, take, drop, sym, refl, ap, ◌∙◌, subst, mul_comm, arith, take-add, w64, to_z, of_z, eqb-true, leb-true}
 use native.Mathlib.Nat.{div-add-mod}
 use mir.ValLaws.{of_z-to_z}
 use Rattle.std.specs.List.{AllByRecursion as All}
 use Rattle.std.proofs.ByRecursion.{All-take, All-drop}
 use Rattle.std.proofs.lemmas.List.{take_all, length-take, length-drop, take-append-drop, nil_from_length}
 use Rattle.std.proofs.lemmas.Bool.Decides.{nat_tests}
-use Rattle.record.specs.Little.{value, little, field, numbers, spread}
-use Rattle.record.specs.Kinds.{Entry, set_up, opening, stepping, closing, opened, published, closed, refused, ended, kind_of, body_of, bytes_of, row_in, tally_in}
-use Rattle.record.specs.Reads.{Answer, found, nothing, faulty, refusal, decode, suited, has_few_counts, answer_to, rest_after, announced}
+use Rattle.record.specs.Little.{little, field, numbers, spread}
+use Rattle.record.specs.Kinds.{Entry, kind_of, body_of, bytes_of, tally_in}
+use Rattle.record.specs.Reads.{Answer, found, nothing, refusal, decode, suited, has_few_counts, answer_to, rest_after, announced}
 use Rattle.record.proofs.Digits.{Bytes, little-field, spread-numbers, numbers-lt}
 
 and_left : (a b : Bool) → (a && b) ≡ true → a ≡ true

@@ -1,5 +1,5 @@
 -- What the reader answers to any bytes.
-use Rattle.std.specs.Prelude.{ℕ, ◌+◌, ◌-◌, ◌*◌, ◌/◌, ◌%◌, Bool, cond, ◌&&◌, List, [], length, take, drop, ◌==◌, nat_le}
+use Rattle.std.specs.Prelude.{ℕ, ◌+◌, ◌-◌, ◌/◌, ◌%◌, Bool, cond, ◌&&◌, List, length, take, drop, ◌==◌, nat_le}
 use Rattle.fault.specs.Told.{Told}
 use Rattle.record.specs.Little.{field}
 use Rattle.record.specs.Kinds.{Entry, set_up, opening, stepping, closing, opened, published, closed, refused, ended, row_in, tally_in}

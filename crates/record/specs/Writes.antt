@@ -1,5 +1,5 @@
 -- What the writer answers and stores, and the two laws that tie it to the reader.
-use Rattle.std.specs.Prelude.{◌≡◌, ℕ, ◌+◌, Bool, true, cond, ◌&&◌, List, ◌++◌, length, take, drop, is_ok, Ok, Err, Result, nat_le}
+use Rattle.std.specs.Prelude.{◌≡◌, ℕ, ◌+◌, cond, ◌&&◌, List, ◌++◌, length, take, drop, is_ok, Ok, Err, Result, nat_le}
 use Rattle.fault.specs.Told.{Told}
 use Rattle.record.specs.Kinds.{Entry, set_up, opening, stepping, closing, opened, published, closed, refused, ended, bytes_of}
 use Rattle.record.specs.Reads.{found, answer_to, rest_after}

@@ -1,5 +1,5 @@
 -- Every published count is near its true count.
-use Rattle.std.proofs.Common.{◌≡◌, ℕ, zero, suc, ◌+◌, ◌-◌, ◌*◌, ◌^◌, ◌<◌, ◌≤◌, min, Bool, true, false, cond, eqb, leb, List, [], ◌∷◌, ◌++◌, map, length, get_or, ℤ, pos, Some, None, Option, sym, refl, ap, ◌∙◌, subst, mul-le-mul_right, mul-le-mul, mul-le-mul_left, arith, ne_eqb}
+use Rattle.std.proofs.Common.{◌≡◌, ℕ, suc, ◌*◌, ◌^◌, ◌<◌, ◌≤◌, min, true, false, eqb, leb, List, [], ◌∷◌, ◌++◌, length, ℤ, Some, None, Option, sym, refl, ap, ◌∙◌, subst, mul-le-mul_right, mul-le-mul, mul-le-mul_left, arith, ne_eqb}
 use borrow.Author.Tests.{lt-leb}
 use Rattle.std.specs.List.{AllByRecursion as All}
 use Rattle.std.proofs.lemmas.Int.{ints}
@@ -8,10 +8,10 @@ use Rattle.plan.specs.Plans.{horizon, breadth, cover}
 use Rattle.plan.specs.Covers.{breadth-le, cover-breadth}
 use Rattle.finisher.specs.Finishers.{Stands, Keeps, Within, count_limit}
 use Rattle.finisher.specs.Finishers as finisher
-use Rattle.runs.specs.Model.{Setting, Station, is_open, Call, steps, reads, Answer, stepped, published, refused, refusal, checks, first_told, answer_by, station_by, answer, next, after_row, after_close, lane_at, empty_lane}
-use Rattle.runs.specs.Runs.{answers, station_after, rows_taken, epoch_rows, true_count}
-use Rattle.runs.specs.Law.{Making, LawfulMaking, Accurate, make, AnswerTo, epoch_cells}
-use Rattle.runs.proofs.Facts.{Steps, step-facts}
+use Rattle.runs.specs.Model.{Setting, Station, is_open, steps, reads, Answer, stepped, published, refusal, answer_by, station_by, answer, after_row, after_close, lane_at}
+use Rattle.runs.specs.Runs.{answers, station_after, epoch_rows, true_count}
+use Rattle.runs.specs.Law.{Making, LawfulMaking, Accurate, make}
+use Rattle.runs.proofs.Facts.{step-facts}
 use Rattle.runs.proofs.Lanes.{AllFrom, all-from-at}
 use Rattle.runs.proofs.Noise.{NoiseBound, within-zero}
 use Rattle.runs.proofs.Standing.{Stand, Quiet}

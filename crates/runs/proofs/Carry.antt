@@ -1,5 +1,5 @@
 -- A row that is the same in both lists, and one that differs: the shifts of its cells make up for the counts.
-use Rattle.std.proofs.Common.{◌≡◌, ℕ, zero, suc, ◌+◌, ◌-◌, ◌<◌, ◌≤◌, Bool, true, false, cond, ◌&&◌, eqb, leb, ◌⊎◌, List, [], ◌∷◌, ◌++◌, map, length, get_or, set, ℤ, pos, negsuc, ◌+ℤ◌, ◌-ℤ◌, Some, None, Option, sym, refl, ap, ◌∙◌, subst, inl, inr, ⊎_elim, arith, get_or-set_other, get_or-set_same, eq-eqb, ne_eqb, eqb-true, le-leb}
+use Rattle.std.proofs.Common.{◌≡◌, ℕ, suc, ◌<◌, ◌≤◌, Bool, true, false, cond, ◌&&◌, eqb, leb, ◌⊎◌, List, [], ◌∷◌, length, get_or, set, ℤ, pos, ◌+ℤ◌, Some, None, Option, sym, refl, ap, ◌∙◌, subst, inl, inr, ⊎_elim, arith, get_or-set_other, get_or-set_same, eqb-true, le-leb}
 use borrow.Author.Tests.{eqb-false, lt-leb}
 use Rattle.std.proofs.lemmas.List.{length-set}
 use Rattle.std.proofs.lemmas.Int.{ints}
@@ -7,7 +7,7 @@ use Rattle.plan.specs.Plans.{holds}
 use Rattle.plan.specs.Parts.{holds-inside, holds-before}
 use Rattle.runs.specs.Runs.{Change, shift_of, difference, other_count}
 use Rattle.runs.proofs.Facts.{le-or-gt}
-use Rattle.runs.proofs.Pairs.{count_shift, noise_shift, Carries, Paired, paired-from}
+use Rattle.runs.proofs.Pairs.{count_shift, Carries, Paired, paired-from}
 
 -- an accepted difference lies at a step that has been taken
 abbrev pub Seen : Option Change → ℕ → Type 0

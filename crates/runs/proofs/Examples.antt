@@ -1,14 +1,12 @@
 -- The worked examples, by computation.
-use Rattle.std.proofs.Common.{◌≡◌, List, [], ◌∷◌, ℤ, pos, negsuc, refl, arith, lit<, lit≤, w32, SFits}
+use Rattle.std.proofs.Common.{List, ℤ, refl, lit<, lit≤, w32, SFits}
 use mir.Facts.{sfits_lit}
 use Rattle.std.specs.List.{AllByRecursion as All}
 use Rattle.plan.specs.Plans.{horizon, holds, holding, total, greatest, depth}
 use Rattle.plan.specs.Known.{dyadic, power_in}
 use Rattle.plan.specs.Dyadics.{dyadic-falls}
-use Rattle.runs.specs.Model.{Answer}
-use Rattle.runs.specs.Runs.{Agreed, answers}
-use Rattle.runs.specs.Law.{Making, LawfulMaking, Pair, make, firsts}
-use Rattle.runs.specs.Examples.{WorkedRun, WorkedPair, twice, two_epochs}
+use Rattle.runs.specs.Law.{LawfulMaking}
+use Rattle.runs.specs.Examples.{WorkedRun, WorkedPair, twice}
 
 pub worked-run : WorkedRun
 unfolding dyadic power_in depth greatest holding total holds

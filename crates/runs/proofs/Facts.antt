@@ -1,9 +1,9 @@
 -- What an accepted call tells.
-use Rattle.std.proofs.Common.{◌≡◌, ℕ, zero, suc, ◌+◌, ◌-◌, ◌<◌, ◌≤◌, Bool, true, false, cond, not, ◌&&◌, eqb, ltb, leb, ◌⊎◌, List, [], ◌∷◌, ◌++◌, map, length, Some, None, Option, sym, refl, ap, ◌∙◌, subst, inl, inr, arith, ltb-false, ltb-true, eqb-true, leb-false, leb-true}
+use Rattle.std.proofs.Common.{◌≡◌, ℕ, suc, ◌<◌, ◌≤◌, Bool, true, false, cond, not, ◌&&◌, eqb, ltb, leb, ◌⊎◌, List, [], ◌∷◌, length, Some, None, Option, refl, inl, inr, arith, ltb-false, eqb-true, leb-false, leb-true}
 use Rattle.std.specs.List.{AllByRecursion as All}
 use Rattle.fault.specs.Told.{Told}
 use Rattle.plan.specs.Plans.{horizon, depth_asked}
-use Rattle.runs.specs.Model.{Station, Call, opens, steps, closes, reads, balances, first_told, checks, is_open, epoch_of, free, first_above, refusal}
+use Rattle.runs.specs.Model.{Station, opens, steps, closes, first_told, checks, is_open, epoch_of, free, first_above, refusal}
 
 none-by : (b : Bool) (t : Told) (o : Option Told) → cond b (Some t) o ≡ None → (b ≡ false) × (o ≡ None)
 none-by true t o h = let z : ◌≡◌ {A = ℕ} 0 1 = cc in absurd (omega arith)

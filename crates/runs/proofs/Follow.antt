@@ -1,12 +1,12 @@
 -- Any list of calls, followed from the making.
-use Rattle.std.proofs.Common.{◌≡◌, ℕ, zero, suc, ◌+◌, ◌-◌, ◌*◌, ◌<◌, ◌≤◌, Bool, true, false, List, [], ◌∷◌, ◌++◌, map, length, Some, None, Option, sym, refl, ap, ◌∙◌, subst, arith}
+use Rattle.std.proofs.Common.{◌≡◌, ℕ, ◌+◌, List, [], ◌∷◌, ◌++◌, map, Some, None, Option, sym, refl, ap, ◌∙◌, subst, arith}
 use Rattle.std.proofs.lemmas.List.{append_cancel_left}
 use Rattle.fault.specs.Told.{Told}
 use Rattle.finisher.specs.Finishers as finisher
-use Rattle.runs.specs.Model.{Station, is_open, idle, running, Call, opens, steps, closes, reads, balances, Answer, opened, stepped, closed, published, balance, refused, refusal, answer_by, station_by, answer, next, advanced, release, after_row, after_open, after_close}
+use Rattle.runs.specs.Model.{Station, Call, opens, steps, closes, reads, balances, Answer, opened, stepped, closed, published, balance, refused, refusal, answer_by, station_by, answer, next, advanced, release, after_row, after_open, after_close}
 use Rattle.runs.specs.Runs.{answers, station_after, rows_taken, epoch_after, epoch_rows}
 use Rattle.runs.specs.Law.{Making, LawfulMaking, make}
-use Rattle.runs.proofs.Facts.{Opens, open-facts, Steps, step-facts, close_facts}
+use Rattle.runs.proofs.Facts.{open-facts, Steps, step-facts}
 use Rattle.runs.proofs.Sound.{Sound, sound-made, sound-open, sound-step, sound-close}
 use Rattle.runs.proofs.Standing.{finishes_of}
 use Rattle.runs.proofs.Track.{Track, track-made, track-open, track-close, track-step}

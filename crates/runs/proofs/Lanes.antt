@@ -1,8 +1,8 @@
 -- What holds of each class, before and after a row.
-use Rattle.std.proofs.Common.{◌≡◌, ℕ, zero, suc, ◌+◌, ◌-◌, ◌<◌, ◌≤◌, List, [], ◌∷◌, ◌++◌, map, length, get_or, take, drop, replicate, ℤ, pos, sym, refl, ap, ◌∙◌, subst, arith}
+use Rattle.std.proofs.Common.{◌≡◌, ℕ, zero, suc, ◌+◌, ◌<◌, List, [], ◌∷◌, length, get_or, replicate, ℤ, refl, ap, subst, arith}
 use Rattle.std.specs.List.{AllByRecursion as All}
 use Rattle.finisher.specs.Finishers.{Says, after, finishes}
-use Rattle.runs.specs.Model.{Lane, advance, advance_all, release, answers_to, publish_all, empty_lane}
+use Rattle.runs.specs.Model.{Lane, advance, advance_all, answers_to, publish_all, empty_lane}
 
 -- a fact of each class from one on
 abbrev pub AllFrom : (ℕ → Lane → Type 0) → ℕ → List Lane → Type 0

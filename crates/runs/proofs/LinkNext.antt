@@ -1,19 +1,18 @@
 -- Two stations that are linked stay linked, and the rest of the second tape stays the rest of the first, moved.
-use Rattle.std.proofs.Common.{◌≡◌, ℕ, zero, suc, ◌+◌, ◌-◌, ◌*◌, ◌<◌, ◌≤◌, min, Bool, true, false, cond, not, ◌&&◌, ◌||◌, eqb, ltb, leb, List, [], ◌∷◌, ◌++◌, map, length, get_or, take, drop, set, replicate, ℤ, pos, negsuc, ◌+ℤ◌, ◌-ℤ◌, Some, None, Option, sym, refl, ap, ◌∙◌, subst, arith, w64, SFits}
-use Rattle.std.specs.List.{range_with_len, AllByRecursion as All}
+use Rattle.std.proofs.Common.{◌≡◌, ℕ, suc, ◌≤◌, Bool, false, List, map, length, take, ℤ, pos, ◌+ℤ◌, ◌-ℤ◌, None, Option, sym, ap, ◌∙◌, subst, arith, w64, SFits}
+use Rattle.std.specs.List.{AllByRecursion as All}
 use Rattle.std.proofs.lemmas.List.{length-drop, length-map, length_push}
-use Rattle.fault.specs.Told.{Told}
-use Rattle.plan.specs.Plans.{horizon, AgreeTo, Falls, back_asked, depth_asked}
+use Rattle.plan.specs.Plans.{horizon, Falls, back_asked}
 use Rattle.plan.proofs.Asked.{back-asked}
-use Rattle.finisher.specs.Finishers.{Says, Alike, after, begins, class_limit}
-use Rattle.runs.specs.Model.{Setting, Station, Lane, is_open, Call, opens, steps, closes, reads, balances, Answer, opened, stepped, closed, published, balance, refused, refusal, accepted, answer_by, station_by, answer, next, empty_lane, advanced, advance_all, release, answers_to, says_after, publish_all, after_open, after_row, after_close}
-use Rattle.runs.specs.Runs.{Joint, same, apart, first, second, Change, Sight, is_apart, change_at, sight_after, shift_of, shifts_at, shifts, moved_by, MayDiffer, difference, other_count, answers}
-use Rattle.runs.proofs.Facts.{Steps, step-facts}
+use Rattle.finisher.specs.Finishers.{Alike, class_limit}
+use Rattle.runs.specs.Model.{Setting, Station, advanced, advance_all, release, answers_to, says_after, publish_all, after_row}
+use Rattle.runs.specs.Runs.{Change, Sight}
+use Rattle.runs.proofs.Facts.{Steps}
 use Rattle.runs.proofs.Lanes.{AllFrom, all-counts, advance-all, every-cell}
 use Rattle.runs.proofs.Sound.{Sound, advanced-long}
-use Rattle.runs.proofs.Pairs.{LaneLinked, Paired, count_shift, noise_shift, Carries, moved_row, lanes_step, releases-same, publish-linked, alike-begun, alike-row}
-use Rattle.runs.proofs.Carry.{Seen, seen-later, carries_same, carries-apart, rows_same, rows_apart}
-use Rattle.runs.proofs.Linked.{Linked, depth-alike, back-alike, refusal-linked, answer-linked}
+use Rattle.runs.proofs.Pairs.{LaneLinked, Paired, Carries, lanes_step, releases-same, publish-linked, alike-row}
+use Rattle.runs.proofs.Carry.{Seen}
+use Rattle.runs.proofs.Linked.{Linked, back-alike}
 
 -- a row: what changes, and by how much counts and cells differ
 module _ (s t : Station) (v : Sight) (l : Linked s t v) (h : Sound s) (falls : Falls s.back) (row row' : List ℕ) (f : Steps s row) (few : suc s.steps ≤ horizon) (fits : All (SFits w64) (map release (advanced s row))) (limit : s.setting.classes ≤ class_limit) (new : Option Change) (more shift : ℕ → ℤ) (carries : (c : ℕ) → Carries v.change new more shift s.steps (s.back (suc s.steps)) c) (counts : Paired (λ c x y. pos y ≡ pos x +ℤ more c) 0 row row') (cells : Paired (λ c x y. y ≡ x -ℤ shift c) 0 (take s.setting.classes s.cells) (take s.setting.classes t.cells)) where

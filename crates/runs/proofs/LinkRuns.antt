@@ -1,18 +1,17 @@
 -- Two lists of calls side by side: every answer is the same in both.
-use Rattle.std.proofs.Common.{◌≡◌, ℕ, zero, suc, ◌+◌, ◌-◌, ◌*◌, ◌<◌, ◌≤◌, Bool, true, false, cond, ◌&&◌, ◌||◌, eqb, List, [], ◌∷◌, ◌++◌, map, length, get_or, take, drop, set, replicate, ℤ, pos, ◌-ℤ◌, Some, None, Option, sym, refl, ap, ◌∙◌, subst, arith}
+use Rattle.std.proofs.Common.{◌≡◌, ℕ, zero, suc, ◌<◌, ◌≤◌, Bool, true, false, cond, ◌||◌, eqb, List, [], ◌∷◌, ◌++◌, map, take, drop, replicate, ℤ, pos, ◌-ℤ◌, Some, None, Option, sym, refl, ap, ◌∙◌, subst, arith}
 use Rattle.std.specs.List.{range_with_len}
 use Rattle.fault.specs.Told.{Told}
 use Rattle.plan.specs.Plans.{horizon, Falls, depth_asked}
-use Rattle.finisher.specs.Finishers.{Says, after, begins, class_limit}
-use Rattle.runs.specs.Model.{Setting, Station, Lane, is_open, Call, opens, steps, closes, reads, balances, Answer, opened, stepped, closed, published, balance, refused, refusal, answer_by, station_by, answer, next, empty_lane, noise_after, after_open, after_row, after_close}
-use Rattle.runs.specs.Runs.{Joint, same, apart, first, second, Change, Sight, unseen, is_apart, change_at, sight_after, shift_of, shifts_at, shifts, moved_by, MayDiffer, Agreed, difference, other_count, answers, station_after, rows_taken, epoch_after}
+use Rattle.finisher.specs.Finishers.{class_limit}
+use Rattle.runs.specs.Model.{Setting, Station, opens, steps, closes, reads, balances, refusal, answer_by, station_by, answer, next, empty_lane, noise_after, after_open, after_close}
+use Rattle.runs.specs.Runs.{Joint, same, apart, first, second, Change, Sight, unseen, is_apart, sight_after, shift_of, shifts_at, shifts, moved_by, MayDiffer, Agreed, difference, answers}
 use Rattle.runs.specs.Law.{Making, LawfulMaking, MadeAlike, Pair, make, firsts, seconds}
-use Rattle.runs.proofs.Facts.{open-facts, Steps, step-facts}
-use Rattle.runs.proofs.Sound.{Sound}
+use Rattle.runs.proofs.Facts.{Steps, step-facts}
 use Rattle.runs.proofs.Track.{few-by, releases-fit}
 use Rattle.runs.proofs.Follow.{Following, follow-by, follow-made}
 use Rattle.runs.proofs.Pairs.{LaneLinked, Paired, Carries, moved_row, alike-begun}
-use Rattle.runs.proofs.Carry.{Seen, seen-later, carries_same, carries-apart, rows_same, rows_apart}
+use Rattle.runs.proofs.Carry.{seen-later, carries_same, carries-apart, rows_same, rows_apart}
 use Rattle.runs.proofs.Linked.{Linked, depth-alike, refusal-linked, answer-linked}
 use Rattle.runs.proofs.LinkNext.{row-linked}
 

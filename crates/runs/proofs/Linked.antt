@@ -1,19 +1,15 @@
 -- Two stations side by side: they refuse and answer alike, call after call.
-use Rattle.std.proofs.Common.{◌≡◌, ℕ, zero, suc, ◌+◌, ◌-◌, ◌*◌, ◌<◌, ◌≤◌, min, Bool, true, false, cond, not, ◌&&◌, ◌||◌, eqb, ltb, leb, List, [], ◌∷◌, ◌++◌, map, length, get_or, take, drop, set, replicate, ℤ, pos, negsuc, ◌+ℤ◌, ◌-ℤ◌, Some, None, Option, sym, refl, ap, ◌∙◌, subst, arith, w64, SFits, le-ltb, leb-true}
-use Rattle.std.specs.List.{range_with_len, AllByRecursion as All}
-use Rattle.std.proofs.lemmas.List.{length-set, length-drop, length-map}
+use Rattle.std.proofs.Common.{◌≡◌, ℕ, zero, suc, ◌≤◌, Bool, true, false, cond, ltb, leb, List, [], ◌∷◌, length, get_or, set, Some, None, Option, sym, refl, ap, ◌∙◌, le-ltb, leb-true}
+use Rattle.std.proofs.lemmas.List.{length-set}
 use Rattle.fault.specs.Told.{Told}
-use Rattle.plan.specs.Plans.{horizon, AgreeTo, Falls, back_asked, depth, depth_asked, within}
+use Rattle.plan.specs.Plans.{horizon, AgreeTo, back_asked, depth, depth_asked}
 use Rattle.plan.proofs.Agree.{depth_same}
-use Rattle.plan.proofs.Asked.{asked, back-asked}
-use Rattle.finisher.specs.Finishers.{Says, Alike, after, begins, class_limit}
-use Rattle.runs.specs.Model.{Setting, Station, Lane, Phase, is_open, epoch_of, units_of, Call, opens, steps, closes, reads, balances, Answer, opened, stepped, closed, published, balance, refused, first_above, first_told, checks, refusal, accepted, answer_by, station_by, answer, next, lane_at, empty_lane, advanced, advance_all, release, answers_to, says_after, publish_all, after_open, after_row, after_close}
-use Rattle.runs.specs.Runs.{Joint, same, apart, first, second, Change, Sight, is_apart, change_at, sight_after, shift_of, shifts_at, shifts, moved_by, MayDiffer, difference, other_count, answers}
-use Rattle.runs.proofs.Facts.{le-or-gt, Steps, step-facts}
-use Rattle.runs.proofs.Lanes.{AllFrom, all-counts, advance-all, every-cell}
-use Rattle.runs.proofs.Sound.{Sound, advanced-long}
-use Rattle.runs.proofs.Pairs.{LaneLinked, Paired, count_shift, noise_shift, Carries, moved_row, lanes_step, releases-same, publish-linked, alike-begun, alike-row}
-use Rattle.runs.proofs.Carry.{Seen, seen-later, carries_same, carries-apart, rows_same, rows_apart}
+use Rattle.plan.proofs.Asked.{back-asked}
+use Rattle.finisher.specs.Finishers.{Alike}
+use Rattle.runs.specs.Model.{Station, Lane, Call, opens, steps, closes, reads, balances, published, first_above, first_told, checks, refusal, accepted, answer_by, answer, empty_lane}
+use Rattle.runs.specs.Runs.{Joint, same, apart, first, second, Change, Sight, MayDiffer, other_count}
+use Rattle.runs.proofs.Pairs.{LaneLinked, Paired}
+use Rattle.runs.proofs.Carry.{Seen}
 
 -- what an observer cannot tell the two stations apart by
 pub record Linked (s t : Station) (v : Sight) : Type 0 where

@@ -1,9 +1,9 @@
 -- The noise of a class: one cell for each part of the cover.
-use Rattle.std.proofs.Common.{◌≡◌, ℕ, zero, suc, ◌+◌, ◌-◌, ◌*◌, ◌^◌, ◌<◌, ◌≤◌, List, [], ◌∷◌, ◌++◌, map, length, get_or, ℤ, pos, ◌+ℤ◌, sym, refl, ap, ◌∙◌, subst, ⊎_elim, mul-suc, arith}
+use Rattle.std.proofs.Common.{◌≡◌, ℕ, zero, suc, ◌+◌, ◌*◌, ◌<◌, ◌≤◌, List, [], ◌∷◌, ◌++◌, length, ℤ, pos, ◌+ℤ◌, sym, refl, ap, subst, ⊎_elim, mul-suc, arith}
 use Rattle.std.proofs.lemmas.List.{get_or_append_left, get_or_at, length_push}
 use Rattle.std.proofs.lemmas.Int.{ints}
 use Rattle.plan.specs.Plans.{horizon, Falls, cover, back_asked}
-use Rattle.plan.specs.Covers.{cover-suc, cover-zero}
+use Rattle.plan.specs.Covers.{cover-suc}
 use Rattle.plan.proofs.Asked.{back-asked}
 use Rattle.finisher.specs.Finishers.{Within}
 use Rattle.runs.specs.Model.{noise_after}

@@ -1,13 +1,13 @@
 -- Pairs alike have the same cells moved.
-use Rattle.std.proofs.Common.{◌≡◌, ℕ, zero, suc, ◌+◌, ◌-◌, ◌*◌, ◌<◌, ◌≤◌, min, Bool, true, false, cond, ◌&&◌, eqb, ltb, leb, ◌↔◌, List, [], ◌∷◌, ◌++◌, map, length, get_or, drop, ℤ, pos, ◌-ℤ◌, Some, None, Option, sym, refl, ap, ◌∙◌, subst, ⊎_elim, arith}
+use Rattle.std.proofs.Common.{◌≡◌, ℕ, zero, suc, ◌<◌, ◌≤◌, cond, ◌&&◌, eqb, ltb, leb, ◌↔◌, List, [], ◌∷◌, ◌++◌, map, length, get_or, ℤ, pos, ◌-ℤ◌, Some, None, Option, sym, refl, ap, ◌∙◌, subst, ⊎_elim, arith}
 use Rattle.std.specs.List.{range_with_len}
 use Rattle.std.proofs.lemmas.List.{get_or_past, length-drop}
 use Rattle.std.proofs.lemmas.Int.{ints}
 use Rattle.fault.specs.Told.{Told}
 use Rattle.plan.specs.Plans.{horizon, AgreeTo, holds, depth_asked}
-use Rattle.runs.specs.Model.{Setting, Station, Call, opens, steps, closes, reads, balances, Answer, opened, stepped, closed, published, balance, refused, first_told, checks, refusal, accepted, answer_by, station_by, answer, next, after_open, after_row, after_close, made}
+use Rattle.runs.specs.Model.{Setting, Station, Call, opens, steps, closes, reads, balances, Answer, opened, stepped, closed, published, balance, refused, first_told, refusal, answer_by, station_by, answer, next}
 use Rattle.runs.specs.Runs.{Joint, first, Change, Sight, unseen, sight_after, shift_of, shifts_at, shifts, moved_by, answers}
-use Rattle.runs.specs.Law.{Making, LawfulMaking, Pair, make, firsts, cell_at}
+use Rattle.runs.specs.Law.{Making, Pair, make, firsts, cell_at}
 use Rattle.runs.proofs.Facts.{le-or-gt, step-facts}
 use Rattle.runs.proofs.Sound.{Sound, sound-made, sound-next}
 use Rattle.runs.proofs.Track.{few-by}

@@ -1,8 +1,7 @@
 -- What is published is the finisher's answer to the true count plus the noise of the cover.
-use Rattle.std.proofs.Common.{◌≡◌, ℕ, zero, suc, ◌+◌, ◌-◌, ◌*◌, ◌<◌, ◌≤◌, min, Bool, true, false, cond, List, [], ◌∷◌, ◌++◌, map, length, get_or, take, drop, replicate, ℤ, pos, ◌+ℤ◌, Some, None, Option, sym, refl, ap, ◌∙◌, subst, ⊎_elim, mul-suc, arith}
+use Rattle.std.proofs.Common.{◌≡◌, ℕ, zero, suc, ◌+◌, ◌-◌, ◌*◌, ◌<◌, ◌≤◌, min, true, List, [], ◌∷◌, ◌++◌, map, length, get_or, take, replicate, ℤ, pos, ◌+ℤ◌, Some, None, Option, sym, refl, ap, ◌∙◌, subst, ⊎_elim, arith}
 use Rattle.std.specs.List.{range_with_len}
 use Rattle.std.proofs.lemmas.List.{append-nil, append_assoc, get_or-take, get_or-drop, length_push, length-map, length-take}
-use Rattle.std.proofs.lemmas.Int.{ints}
 use Rattle.fault.specs.Told.{Told}
 use Rattle.plan.specs.Plans.{horizon, cover, back_asked, depth, depth_asked}
 use Rattle.plan.proofs.Asked.{asked, back-asked}
@@ -10,13 +9,13 @@ use Rattle.plan.specs.Covers.{cover-suc, cover-zero}
 use Rattle.plan.specs.Parts.{depth-grows}
 use Rattle.finisher.specs.Finishers.{Says, after}
 use Rattle.finisher.specs.Finishers as finisher
-use Rattle.runs.specs.Model.{Setting, Station, Lane, Phase, idle, running, is_open, units_of, Call, opens, steps, closes, reads, balances, Answer, opened, stepped, closed, published, balance, refused, refusal, answer_by, station_by, answer, next, noise_after, advance, advance_all, advanced, release, answers_to, publish_all, empty_lane, lane_at, after_open, after_row, after_close}
+use Rattle.runs.specs.Model.{Setting, Station, Lane, Phase, idle, running, is_open, units_of, Call, opens, steps, closes, reads, balances, Answer, stepped, closed, published, refusal, answer_by, station_by, answer, next, noise_after, advance, advance_all, advanced, release, answers_to, publish_all, empty_lane, lane_at, after_open, after_row, after_close}
 use Rattle.runs.specs.Runs.{answers, station_after, rows_taken, epoch_after, epoch_rows, true_count}
-use Rattle.runs.specs.Law.{Making, LawfulMaking, make, cell_at, cover_noise, release_of, row_finishes, finishes_for, finisher_calls, Published, SpendsDepth, AnswerTo}
+use Rattle.runs.specs.Law.{Making, LawfulMaking, make, cell_at, cover_noise, release_of, row_finishes, finishes_for, finisher_calls, Published, SpendsDepth}
 use Rattle.runs.proofs.Facts.{le-or-gt, Steps, step-facts, open-facts, close_facts}
 use Rattle.runs.proofs.Lanes.{AllFrom, all-from-both, all-from-weaker, publish-all, length-answers}
 use Rattle.runs.proofs.Noise.{noise-old, noise-new}
-use Rattle.runs.proofs.Sound.{Sound, PhaseSound, sound-made, sound-open, sound-step, sound-close, cells-taken, advanced-long}
+use Rattle.runs.proofs.Sound.{Sound, PhaseSound, sound-made, sound-open, sound-step, sound-close, advanced-long}
 use Rattle.runs.proofs.Standing.{finishes_of}
 use Rattle.runs.proofs.Track.{Track, track-made, track-open, track-close, track-step, few-by, counts-now, long-now}
 use Rattle.runs.proofs.Follow.{answers_push, station-push, answer-is, rows-taken-more}

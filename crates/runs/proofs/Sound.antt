@@ -1,13 +1,11 @@
 -- What every station keeps.
-use Rattle.std.proofs.Common.{◌≡◌, ℕ, zero, suc, ◌+◌, ◌-◌, ◌<◌, ◌≤◌, min, Bool, true, false, cond, leb, List, [], ◌∷◌, ◌++◌, map, length, get_or, take, drop, replicate, ℤ, pos, Some, None, Option, sym, refl, ap, ◌∙◌, subst, arith, le-leb}
-use Rattle.std.specs.List.{AllByRecursion as All}
+use Rattle.std.proofs.Common.{◌≡◌, ℕ, suc, ◌+◌, ◌-◌, ◌<◌, ◌≤◌, min, true, false, List, map, length, take, ℤ, Some, None, Option, sym, refl, ◌∙◌, arith}
 use Rattle.std.proofs.lemmas.List.{length-replicate, length-take, length_push, length-map}
 use Rattle.fault.specs.Told.{Told}
-use Rattle.plan.specs.Plans.{horizon, Falls, depth, depth_asked}
-use Rattle.plan.specs.Laws.{CoverLaws}
+use Rattle.plan.specs.Plans.{horizon, depth_asked}
 use Rattle.finisher.specs.Finishers.{Says}
-use Rattle.runs.specs.Model.{Setting, Station, Lane, Phase, idle, running, Call, opens, steps, closes, reads, balances, is_open, epoch_of, units_of, units_spent, free, next, station_by, changed, refusal, advance, advance_all, advanced, release, answers_to, publish_all, empty_lane, made, after_open, after_row, after_close}
-use Rattle.runs.proofs.Facts.{Opens, open-facts, Steps, step-facts, close_facts}
+use Rattle.runs.specs.Model.{Setting, Station, Phase, idle, running, Call, opens, steps, closes, reads, balances, is_open, epoch_of, units_of, next, station_by, refusal, advanced, release, answers_to, empty_lane, made, after_open, after_row, after_close}
+use Rattle.runs.proofs.Facts.{Opens, open-facts, Steps, step-facts}
 use Rattle.runs.proofs.Lanes.{AllFrom, all-counts, all-from-new, advance-all, every-cell, length-advance, length-answers, length-publish, publish-all}
 
 -- while idle nothing is held; an open epoch holds the depth of its horizon, and has no more steps than that

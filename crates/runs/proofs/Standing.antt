@@ -1,5 +1,5 @@
 -- A row, finished class after class: each class stands at its true count, with the bound of its noise.
-use Rattle.std.proofs.Common.{◌≡◌, ℕ, zero, suc, ◌+◌, ◌-◌, ◌*◌, ◌^◌, ◌<◌, ◌≤◌, List, [], ◌∷◌, ◌++◌, map, length, get_or, ℤ, pos, ◌+ℤ◌, sym, refl, ap, ◌∙◌, subst, arith, w64, SFits}
+use Rattle.std.proofs.Common.{◌≡◌, ℕ, suc, ◌+◌, ◌<◌, ◌≤◌, List, [], ◌∷◌, ◌++◌, map, length, ℤ, ◌+ℤ◌, sym, refl, ap, ◌∙◌, subst, arith, w64, SFits}
 use Rattle.std.specs.List.{AllByRecursion as All}
 use Rattle.std.proofs.ByRecursion.{All-append}
 use Rattle.std.proofs.lemmas.List.{append-nil, append_assoc, length-map, length_push}
@@ -7,7 +7,7 @@ use Rattle.std.proofs.lemmas.Int.{ints}
 use Rattle.finisher.specs.Finishers.{Call, begins, finishes, after, Says, Stands, Keeps, Lawful, LawfulCall, Within, class_limit, count_limit}
 use Rattle.runs.specs.Model.{Lane, noise_after, advance, release, answers_to, says_after, publish_all, empty_lane}
 use Rattle.runs.proofs.Lanes.{AllFrom, publish}
-use Rattle.runs.proofs.Noise.{noise-old, noise-new}
+use Rattle.runs.proofs.Noise.{noise-old}
 
 -- one finish for each release, from a class on
 abbrev pub finishes_of : ℕ → List ℤ → List Call

@@ -1,18 +1,18 @@
 -- A station and the calls that it has had: its cells, true counts and noise by the rows accepted, and where its finisher stands.
-use Rattle.std.proofs.Common.{◌≡◌, ℕ, zero, suc, ◌+◌, ◌-◌, ◌*◌, ◌^◌, ◌<◌, ◌≤◌, Bool, true, false, List, [], ◌∷◌, ◌++◌, map, length, get_or, take, drop, replicate, ℤ, pos, negsuc, ◌+ℤ◌, sym, refl, ap, ◌∙◌, subst, mul-le-mul_left, mul-zero, mul-suc, arith, take-add, w32, w64, SFits}
+use Rattle.std.proofs.Common.{◌≡◌, ℕ, zero, suc, ◌+◌, ◌-◌, ◌*◌, ◌^◌, ◌<◌, ◌≤◌, List, [], ◌∷◌, ◌++◌, map, length, get_or, take, drop, replicate, ℤ, pos, negsuc, ◌+ℤ◌, sym, refl, ap, ◌∙◌, subst, mul-le-mul_left, mul-zero, mul-suc, arith, take-add, w32, w64, SFits}
 use Rattle.std.specs.List.{AllByRecursion as All}
 use Rattle.std.proofs.ByRecursion.{All-append, All-take, All-drop, All-weaker}
-use Rattle.std.proofs.lemmas.List.{append-nil, append_assoc, drop-drop, length-map, length-drop, length_push, get_or_at}
+use Rattle.std.proofs.lemmas.List.{append_assoc, drop-drop, length-map, length_push, get_or_at}
 use Rattle.std.proofs.lemmas.Int.{ints}
-use Rattle.plan.specs.Plans.{horizon, Falls, cover, back_asked}
+use Rattle.plan.specs.Plans.{horizon, cover, back_asked}
 use Rattle.plan.specs.Covers.{cover-length}
-use Rattle.finisher.specs.Finishers.{Call, begins, finishes, after, Says, Stands, Keeps, Lawful, LawfulCall, Within, class_limit, count_limit}
-use Rattle.runs.specs.Model.{Setting, Station, Lane, Phase, idle, running, is_open, epoch_of, noise_after, advance, advance_all, advanced, release, answers_to, says_after, publish_all, empty_lane, made, after_open, after_row, after_close}
+use Rattle.finisher.specs.Finishers.{Call, begins, Stands, Keeps, Lawful, LawfulCall, Within, class_limit, count_limit}
+use Rattle.runs.specs.Model.{Setting, Station, Lane, Phase, idle, running, epoch_of, noise_after, advanced, release, empty_lane, after_open, after_row, after_close}
 use Rattle.runs.specs.Runs.{true_count}
 use Rattle.runs.specs.Law.{Making, LawfulMaking, make}
-use Rattle.runs.proofs.Facts.{Opens, Steps}
+use Rattle.runs.proofs.Facts.{Steps}
 use Rattle.runs.proofs.Lanes.{AllFrom, AllCounts, all-from-weaker, all-from-both, advance-all, all-counts, every-cell, publish-all}
-use Rattle.runs.proofs.Sound.{Sound, PhaseSound, cells-taken, advanced-long}
+use Rattle.runs.proofs.Sound.{Sound, PhaseSound, advanced-long}
 use Rattle.runs.proofs.Noise.{NoiseBound, noise-none, noise-more, within-zero}
 use Rattle.runs.proofs.Standing.{finishes_of, lawful-finishes, Stand, Ready, stand-new, ready-next, stand-all, says-after}
 

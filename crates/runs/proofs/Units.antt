@@ -1,17 +1,16 @@
 -- The moved cells drawn so far are at most the units spent and held.
-use Rattle.std.proofs.Common.{◌≡◌, ℕ, zero, suc, ◌+◌, ◌-◌, ◌*◌, ◌<◌, ◌≤◌, min, Bool, true, false, cond, ◌&&◌, ◌||◌, eqb, ◌⊎◌, List, [], ◌∷◌, ◌++◌, map, length, take, drop, ℤ, pos, negsuc, ◌-ℤ◌, Some, None, Option, sym, refl, ap, ◌∙◌, subst, inl, inr, ⊎_elim, arith, eq-eqb, ne_eqb, eqb-true}
+use Rattle.std.proofs.Common.{◌≡◌, ℕ, zero, suc, ◌+◌, ◌<◌, ◌≤◌, min, Bool, true, false, cond, ◌&&◌, ◌||◌, eqb, List, [], ◌∷◌, ◌++◌, map, ℤ, pos, negsuc, Some, None, Option, sym, refl, ap, subst, arith, eq-eqb, ne_eqb, eqb-true}
 use borrow.Author.Tests.{eqb-false}
 use Rattle.std.specs.List.{range_with_len}
-use Rattle.std.proofs.lemmas.Int.{ints}
 use Rattle.fault.specs.Told.{Told}
-use Rattle.plan.specs.Plans.{horizon, holds, holding, total, depth, depth_asked}
+use Rattle.plan.specs.Plans.{holds, holding, total, depth, depth_asked}
 use Rattle.plan.specs.Parts.{holding-depth, depth-grows, holds-le}
 use Rattle.plan.proofs.Asked.{asked}
-use Rattle.runs.specs.Model.{Setting, Station, Phase, idle, running, is_open, units_of, units_spent, Call, opens, steps, closes, reads, balances, Answer, opened, stepped, closed, published, balance, refused, refusal, answer_by, station_by, answer, next, after_open, after_row, after_close}
-use Rattle.runs.specs.Runs.{Joint, same, apart, first, second, Change, Sight, unseen, is_apart, change_at, sight_after, shift_of, shifts_at, shifts, moved_by, MayDiffer, Agreed, difference, answers, station_after}
-use Rattle.runs.specs.Law.{Making, LawfulMaking, same_cell, differing, firsts, make}
+use Rattle.runs.specs.Model.{Station, Phase, idle, running, is_open, units_of, opens, steps, closes, reads, balances, Answer, opened, stepped, closed, published, balance, refused, refusal, answer_by, station_by, answer, next}
+use Rattle.runs.specs.Runs.{Joint, same, apart, first, Change, Sight, is_apart, change_at, sight_after, shift_of, shifts_at, shifts, MayDiffer, Agreed, difference, answers, station_after}
+use Rattle.runs.specs.Law.{Making, LawfulMaking, same_cell, firsts}
 use Rattle.runs.proofs.Facts.{open-facts, close_facts, step-facts}
-use Rattle.runs.proofs.Sound.{Sound, PhaseSound}
+use Rattle.runs.proofs.Sound.{PhaseSound}
 use Rattle.runs.proofs.Follow.{Following, follow-by}
 
 -- 1 where a shift is not 0, and how many are

@@ -1,14 +1,12 @@
 -- The law on units, and the same places.
-use Rattle.std.proofs.Common.{◌≡◌, ℕ, zero, suc, ◌+◌, ◌-◌, ◌*◌, ◌<◌, ◌≤◌, Bool, true, false, cond, ◌&&◌, eqb, List, [], ◌∷◌, ◌++◌, map, length, take, ℤ, pos, negsuc, ◌-ℤ◌, Some, None, Option, sym, refl, ap, ◌∙◌, subst, mul-zero, mul-one, mul-add, arith, eq-eqb, eqb-true}
-use Rattle.std.specs.List.{range_with_len}
+use Rattle.std.proofs.Common.{◌≡◌, ℕ, zero, suc, ◌+◌, ◌*◌, ◌≤◌, Bool, true, false, cond, List, [], ◌∷◌, ◌++◌, length, take, ℤ, pos, negsuc, ◌-ℤ◌, Option, sym, refl, ap, ◌∙◌, subst, mul-zero, mul-one, mul-add, arith, eq-eqb, eqb-true}
 use Rattle.std.proofs.lemmas.List.FromFn.{length-map-range_with_len}
 use Rattle.std.proofs.lemmas.List.{take-map}
 use Rattle.std.proofs.lemmas.Int.{ints}
 use Rattle.runs.specs.Model.{Setting, Station, Call, balances, Answer, opened, stepped, closed, published, balance, refused, answer, next}
-use Rattle.runs.specs.Runs.{Joint, first, Change, Sight, unseen, sight_after, shift_of, shifts_at, shifts, moved_by, MayDiffer, Agreed, answers, station_after, rows_taken}
+use Rattle.runs.specs.Runs.{Joint, first, Change, Sight, unseen, sight_after, shift_of, shifts_at, shifts, moved_by, Agreed, answers, station_after, rows_taken}
 use Rattle.runs.specs.Law.{Making, LawfulMaking, Pair, same_cell, differing, firsts, make, drawn, AnswerTo}
 use Rattle.runs.proofs.Follow.{follow, follow-made, answers_push, rows-taken-more}
-use Rattle.runs.proofs.Sound.{Sound}
 use Rattle.runs.proofs.Units.{nonzero, moved-within}
 
 -- Cells that differ are cells with a shift.

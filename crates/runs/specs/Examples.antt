@@ -1,9 +1,9 @@
 -- Worked examples: one station's calls and answers, and a pair of stations as the law speaks of them.
-use Rattle.std.specs.Prelude.{◌≡◌, ℕ, true, false, List, [], ◌∷◌, ℤ, pos, negsuc}
+use Rattle.std.specs.Prelude.{◌≡◌, true, false, List, [], ◌∷◌, ℤ, pos, negsuc}
 use Rattle.plan.specs.Known.{dyadic}
 use Rattle.finisher.specs.Finishers.{Says}
 use Rattle.finisher.specs.Kinds.{plain, none_held, rising}
-use Rattle.runs.specs.Model.{Setting, Call, opens, steps, closes, reads, balances, Answer, opened, stepped, closed, published, balance, refused, tell}
+use Rattle.runs.specs.Model.{Call, opens, steps, closes, reads, balances, Answer, opened, stepped, closed, published, balance, refused, tell}
 use Rattle.runs.specs.Runs.{answers, Joint, same, apart}
 use Rattle.runs.specs.Law.{Making, Pair, make}
 

@@ -1,5 +1,5 @@
 -- Runs: a list of calls, what a station answers to it, and two such lists side by side.
-use Rattle.std.specs.Prelude.{◌≡◌, ℕ, zero, suc, ◌+◌, ◌-◌, ◌*◌, ◌<◌, ◌≤◌, Bool, true, false, cond, ◌&&◌, ◌||◌, List, [], ◌∷◌, ◌++◌, map, length, ℤ, pos, negsuc, ◌-ℤ◌, Some, None, Option, ◌==◌, slice_index, slice_set}
+use Rattle.std.specs.Prelude.{◌≡◌, ℕ, suc, ◌+◌, ◌-◌, ◌<◌, ◌≤◌, Bool, true, false, cond, ◌&&◌, ◌||◌, List, [], ◌∷◌, ◌++◌, map, length, ℤ, pos, negsuc, ◌-ℤ◌, Some, None, Option, ◌==◌, slice_index, slice_set}
 use Rattle.std.specs.List.{range_with_len}
 use Rattle.plan.specs.Plans.{holds}
 use Rattle.runs.specs.Model.{Station, Call, opens, steps, closes, reads, balances, Answer, opened, stepped, closed, published, balance, refused, answer, next}

@@ -1,4 +1,4 @@
-use Rattle.std.proofs.Common.{◌≡◌, ℕ, ◌<◌, ◌≤◌, List, length, sym, subst, arith, rules}
+use Rattle.std.proofs.Common.{ℕ, ◌<◌, ◌≤◌, List, length, sym, subst, arith, rules}
 use Rattle.listing.proofs.Sums.{left-start, left_end, rest_le, turn-less, turn_more, turn-stop}
 use Rattle.listing.proofs.list.Goals as goal
 

@@ -1,6 +1,6 @@
-use Rattle.std.proofs.Common.{◌≡◌, ℕ, ◌≤◌, Bool, cond, List, ◌++◌, length, drop, Ok, Err, Result, sym, ap, ◌∙◌, arith, rules}
+use Rattle.std.proofs.Common.{◌≡◌, ℕ, Bool, cond, List, ◌++◌, length, drop, Ok, Err, Result, sym, ap, ◌∙◌, arith, rules}
 use Rattle.std.proofs.lemmas.Bool.{le-ltb, lt-ltb}
-use Rattle.fault.specs.Told.{Told, told}
+use Rattle.fault.specs.Told.{Told}
 use Rattle.runs.specs.Model.{tell}
 use Rattle.publishing.specs.Whole.{least_room, publication, records}
 use Rattle.publishing.proofs.Worked.{worked-whole}

@@ -1,5 +1,5 @@
-use Rattle.std.proofs.Common.{◌≡◌, [], pos, Ok, sym, ap, ◌∙◌, arith, w64, SFits, rules}
-use Rattle.std.proofs.lemmas.Int.{ints, to_z-of_z}
+use Rattle.std.proofs.Common.{◌≡◌, pos, Ok, sym, ap, ◌∙◌, arith, w64, SFits, rules}
+use Rattle.std.proofs.lemmas.Int.{to_z-of_z}
 use Rattle.std.specs.Int.{int_max}
 use Rattle.finisher.specs.Kinds.{floored}
 use Rattle.finisher.specs.Nearness.{accepted, answered}

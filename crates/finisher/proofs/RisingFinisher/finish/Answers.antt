@@ -1,6 +1,6 @@
-use Rattle.std.proofs.Common.{◌≡◌, ◌+◌, ◌<◌, [], length, get_or, set, pos, ◌≤ℤ◌, Ok, Err, sym, ap, ◌∙◌, subst, ap₂, arith, get_or-set_other, w64, SFits, to_z, of_z, rules}
+use Rattle.std.proofs.Common.{◌≡◌, ◌<◌, length, get_or, set, pos, Ok, Err, sym, ap, ◌∙◌, ap₂, arith, w64, SFits, to_z, of_z, rules}
 use Rattle.std.proofs.lemmas.Result.{err_from_is_err_and}
-use Rattle.std.proofs.lemmas.Int.{ints, to_z-of_z}
+use Rattle.std.proofs.lemmas.Int.{to_z-of_z}
 use Rattle.std.specs.Int.{int_max}
 use Rattle.finisher.specs.Kinds.{raised, rising}
 use Rattle.finisher.specs.Nearness.{accepted, refused, answered, same-near}

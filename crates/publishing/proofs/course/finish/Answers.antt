@@ -1,6 +1,5 @@
-use Rattle.std.proofs.Common.{◌≡◌, Bool, cond, List, [], ◌∷◌, None, Option, sym, refl, ap, ◌∙◌, subst}
+use Rattle.std.proofs.Common.{◌≡◌, Bool, cond, List, [], ◌∷◌, Option, sym, ap, subst}
 use Rattle.record.specs.Kinds.{Entry}
-use Rattle.runs.specs.Model as model
 use Rattle.station.specs.View.{view_of}
 use Rattle.station.specs.declared.hold.Hold.{Hold}
 use Rattle.publishing.specs.Whole.{closed_record, closing_of}

@@ -1,5 +1,5 @@
-use Rattle.std.proofs.Common.{◌≡◌, length, sym, ap, ◌∙◌, subst, arith}
-use Rattle.record.specs.Reads.{Answer, nothing, rest_after}
+use Rattle.std.proofs.Common.{length, sym, ap, ◌∙◌, subst, arith}
+use Rattle.record.specs.Reads.{Answer, rest_after}
 use Rattle.record.specs.Seen.{seen}
 use Rattle.tape.specs.Tapes.{byte_cells}
 use Rattle.publishing.specs.Whole.{records_first}

@@ -1,9 +1,9 @@
 use Rattle.std.proofs.Common.{◌≡◌, ℕ, ◌-◌, length, ap, ◌∙◌, subst, arith}
 use Rattle.finisher.specs.Finishers.{Says}
-use Rattle.finisher.specs.Kinds.{none_held, plain, rising, rising_says}
+use Rattle.finisher.specs.Kinds.{none_held, plain, rising}
 use Rattle.plan.specs.Choice.{back_of}
 use Rattle.runs.specs.Model as model
-use Rattle.station.specs.View.{lawful_of, view_of}
+use Rattle.station.specs.View.{lawful_of}
 use Rattle.publishing.specs.Whole.{records_from}
 use Rattle.publishing.specs.Written.{Wrote}
 use Rattle.publishing.proofs.first.follow.Goals as goal

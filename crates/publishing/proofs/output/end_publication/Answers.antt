@@ -1,4 +1,4 @@
-use Rattle.std.proofs.Common.{ℕ, ◌∙◌, arith}
+use Rattle.std.proofs.Common.{◌∙◌, arith}
 use Rattle.record.specs.Kinds.{ended}
 use Rattle.publishing.proofs.Writing.{ok_same, output-fits, written-fits}
 use Rattle.publishing.proofs.output.end_publication.Goals as goal

@@ -1,8 +1,7 @@
-use Rattle.std.proofs.Common.{◌≡◌, None, Option, sym, refl, ap, subst}
+use Rattle.std.proofs.Common.{None, Option, sym, refl, ap, subst}
 use Rattle.fault.specs.Told.{Told, told}
 use Rattle.runs.specs.Model as model
 use Rattle.station.specs.View.{view_of}
-use Rattle.station.specs.declared.Station.{Station}
 use Rattle.publishing.specs.Whole.{unless, opened_record}
 use Rattle.publishing.specs.Replies.{Kept}
 use Rattle.publishing.proofs.Calls.{refusal-told}

@@ -1,4 +1,4 @@
-use Rattle.std.proofs.Common.{sym, ap, ◌∙◌}
+use Rattle.std.proofs.Common.{sym, ◌∙◌}
 use Rattle.record.proofs.Numbers.{field-4}
 use Rattle.record.proofs.fields.u32_at.Goals as goal
 

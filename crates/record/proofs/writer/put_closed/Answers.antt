@@ -1,7 +1,4 @@
-use Rattle.std.proofs.Common.{ℕ, ◌+◌, List, ◌++◌, refl}
-use Rattle.record.specs.Little.{little}
-use Rattle.record.specs.Kinds.{set_up, opening, opened, closed, refused, ended}
-use Rattle.record.proofs.Puts.{put-more}
+use Rattle.record.specs.Kinds.{closed}
 use Rattle.record.proofs.ReadBack.{reads-back}
 use Rattle.record.proofs.writer.put_closed.Goals as goal
 

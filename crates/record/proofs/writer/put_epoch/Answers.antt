@@ -1,4 +1,4 @@
-use Rattle.std.proofs.Common.{ℕ, ◌+◌, List, ◌++◌, length, refl}
+use Rattle.std.proofs.Common.{◌++◌, refl}
 use Rattle.record.specs.Little.{little}
 use Rattle.record.proofs.Puts.{put-more}
 use Rattle.record.proofs.writer.put_epoch.Goals as goal

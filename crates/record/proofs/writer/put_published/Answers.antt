@@ -1,10 +1,10 @@
-use Rattle.std.proofs.Common.{◌≡◌, ℕ, ◌+◌, ◌-◌, ◌*◌, ◌/◌, ◌<◌, List, ◌++◌, length, take, sym, refl, ap, ◌∙◌, arith}
+use Rattle.std.proofs.Common.{ℕ, ◌+◌, ◌-◌, ◌*◌, ◌/◌, ◌<◌, List, ◌++◌, length, take, sym, refl, ap, ◌∙◌, arith}
 use native.Mathlib.Nat.{sub-zero}
 use Rattle.std.proofs.ByRecursion.{All-from_get_or}
 use Rattle.std.proofs.lemmas.List.{length-take}
-use Rattle.record.specs.Little.{little, spread}
-use Rattle.record.specs.Kinds.{body_of, published, row_in, stepping, tally_in}
-use Rattle.record.proofs.Counts.{length-row, length-tally, row-bytes, row_fits, row-size, tally-bytes, tally-fits, tally-size}
+use Rattle.record.specs.Little.{little}
+use Rattle.record.specs.Kinds.{body_of, published, tally_in}
+use Rattle.record.proofs.Counts.{length-tally, tally-bytes, tally-fits, tally-size}
 use Rattle.record.proofs.Puts.{put-more, same-frame}
 use Rattle.record.proofs.ReadBack.{reads-back}
 use Rattle.record.proofs.writer.put_published.Goals as goal

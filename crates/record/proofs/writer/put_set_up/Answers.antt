@@ -1,6 +1,6 @@
-use Rattle.std.proofs.Common.{ℕ, ◌+◌, List, ◌++◌, refl}
+use Rattle.std.proofs.Common.{◌++◌, refl}
 use Rattle.record.specs.Little.{little}
-use Rattle.record.specs.Kinds.{set_up, opening, opened, closed, refused, ended}
+use Rattle.record.specs.Kinds.{set_up}
 use Rattle.record.proofs.Puts.{put-more}
 use Rattle.record.proofs.ReadBack.{reads-back}
 use Rattle.record.proofs.writer.put_set_up.Goals as goal

@@ -1,4 +1,4 @@
-use Rattle.std.proofs.Common.{◌≡◌, ℕ, ◌+◌, ◌*◌, ◌/◌, length, Err, Result, sym, ap, ◌∙◌, arith}
+use Rattle.std.proofs.Common.{◌≡◌, ◌+◌, ◌*◌, ◌/◌, length, Err, sym, ap, ◌∙◌, arith}
 use Rattle.fault.specs.Told.{Told}
 use Rattle.record.specs.Kinds.{bytes_of, stepping, row_in}
 use Rattle.record.proofs.Counts.{length-row, row-size}

@@ -1,5 +1,5 @@
 use Rattle.std.proofs.Common.{rules}
-use Rattle.runs.specs.Law.{Making, LawfulMaking}
+use Rattle.runs.specs.Law.{LawfulMaking}
 use Rattle.runs.proofs.Law.{each-run, paired-runs}
 use Rattle.station.specs.View.{lawful_of, making_of}
 use Rattle.station.proofs.Worked.{worked-examples}

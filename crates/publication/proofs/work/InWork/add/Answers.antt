@@ -1,5 +1,4 @@
-use Rattle.std.proofs.Common.{◌≡◌, ℕ, ◌+◌, ◌-◌, ◌≤◌, min, length, Ok, Err, Result, sym, refl, ap, ◌∙◌, arith}
-use Rattle.fault.specs.Told.{Told, answered}
+use Rattle.std.proofs.Common.{◌≡◌, ℕ, ◌+◌, ◌-◌, length, Ok, refl, ap, ◌∙◌, arith}
 use Rattle.record.specs.Seen.{entry_of}
 use Rattle.record.specs.Writes.{write_of}
 use Rattle.publication.specs.Works.{capped, grown}

@@ -1,4 +1,4 @@
-use Rattle.std.proofs.Common.{◌≡◌, ℕ, List, length, ap, ◌∙◌}
+use Rattle.std.proofs.Common.{length, ap, ◌∙◌}
 use Rattle.record.specs.Kinds.{Entry}
 use Rattle.publication.specs.Works.{output_with, written_with}
 use Rattle.publication.proofs.work.InWork.refuse.Goals as goal

@@ -1,4 +1,4 @@
-use Rattle.std.proofs.Common.{◌≡◌, ℕ, ◌+◌, ◌*◌, length, sym, ap, ◌∙◌, arith}
+use Rattle.std.proofs.Common.{length, sym, ap, ◌∙◌, arith}
 use Rattle.record.specs.declared.kinds.Record.{Record}
 use Rattle.record.specs.Kinds.{bytes_of}
 use Rattle.record.specs.Seen.{entry_of}

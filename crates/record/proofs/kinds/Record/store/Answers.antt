@@ -1,4 +1,4 @@
-use Rattle.std.proofs.Common.{◌≡◌, ◌≤◌, length, sym, refl, ap, ◌∙◌, subst, arith}
+use Rattle.std.proofs.Common.{◌≤◌, length, sym, ap, ◌∙◌, subst}
 use Rattle.record.specs.declared.kinds.Record.{Record}
 use Rattle.record.specs.Kinds.{bytes_of, closing}
 use Rattle.record.specs.Seen.{entry_of}

@@ -1,4 +1,4 @@
-use Rattle.std.proofs.Common.{◌≡◌, ℕ, ◌≤◌, sym, refl, ◌∙◌, arith}
+use Rattle.std.proofs.Common.{◌≤◌, sym, refl, ◌∙◌, arith}
 use Rattle.record.specs.Seen.{entry_of}
 use Rattle.record.specs.Writes.{number_of_counts}
 use Rattle.record.proofs.Written.{has_room, written-whole}
