@@ -2,7 +2,7 @@
 use Rattle.std.specs.Prelude.{◌≡◌, ℕ, ◌+◌, ◌^◌, ◌<◌, ◌≤◌, cond, ◌↔◌, List, [], ◌∷◌, ◌++◌, ℤ, pos, ◌+ℤ◌, ◌≤ℤ◌, Ok, Err, Result, ◌≢◌, nat_lt}
 use Rattle.std.specs.Int.{w64}
 use Rattle.std.proofs.Common.{SFits}
-use Rattle.std.specs.List.{AllByRecursion as All}
+use Rattle.std.specs.List.{AllByRecursion}
 use Rattle.fault.specs.declared.Fault.{Fault}
 use Rattle.fault.specs.declared.Cause.TheVariants.{NoSuchClass}
 use Rattle.fault.specs.declared.Layer.TheVariants.{Finisher}
@@ -39,7 +39,7 @@ LawfulCall begins = Unit {0}
 LawfulCall (finishes class release) = (class < class_limit) × SFits w64 release
 
 abbrev pub Lawful : List Call → Type 0
-Lawful calls = All LawfulCall calls
+Lawful calls = AllByRecursion LawfulCall calls
 
 -- alike in meaning: the same is said after all lawful calls
 abbrev pub Alike : Says → Says → Type 0

@@ -4,7 +4,7 @@ use Rattle.std.proofs.lemmas.List.FromFn.{map-range_with_len_more}
 use Rattle.std.proofs.ByRecursion.{All-push}
 use Rattle.std.proofs.lemmas.List.{append_assoc, append-nil, length-append, length-drop, length-take-le, map_push, take_at}
 use Rattle.std.proofs.lemmas.Int.{to_z-of_z}
-use Rattle.std.specs.List.{range_with_len, AllByRecursion as All}
+use Rattle.std.specs.List.{range_with_len, AllByRecursion}
 use Rattle.record.specs.Little.{little, spread}
 use Rattle.record.specs.Kinds.{tally_in}
 use Rattle.record.specs.Writes.{put}
@@ -41,7 +41,7 @@ little-eight n =
 abbrev pub Stored : (ℕ → ℤ) → ℕ → List ℕ → Type 0
 Stored count classes bytes =
     (take (8 * classes) bytes ≡ spread 8 (map (of_z w64) (map count (range_with_len 0 classes))))
-    × All (SFits w64) (map count (range_with_len 0 classes))
+    × AllByRecursion (SFits w64) (map count (range_with_len 0 classes))
     × (length bytes ≡ 64)
 
 pub stored_more : (count : ℕ → ℤ) (class : ℕ) (bytes after : List ℕ) (z : ℤ) → class < 8 → SFits w64 z → z ≡ count class
@@ -55,7 +55,7 @@ stored_more count class bytes after z few fits is (front, all, long) e =
     let back = length-drop (8 * class + 8) bytes in
     let start = length-take-le (8 * class) bytes (omega arith) in (
       ap (λ (n : ℕ). take n after) at ∙ ap (take (8 * class + 8)) now ∙ tally-more bytes (map count (range_with_len 0 class)) z (8 * class) (omega arith) front ∙ ap (λ (zs : List ℤ). spread 8 (map (of_z w64) zs)) (sym more),
-      subst (All (SFits w64)) (sym more) (All-push (SFits w64) (map count (range_with_len 0 class)) z all fits),
+      subst (AllByRecursion (SFits w64)) (sym more) (All-push (SFits w64) (map count (range_with_len 0 class)) z all fits),
       ap length now ∙ (length-append (take (8 * class) bytes ++ little 8 (of_z w64 z)) (drop (8 * class + 8) bytes) ∙ omega (arith, length-append (take (8 * class) bytes) (little 8 (of_z w64 z)))),
     )
 

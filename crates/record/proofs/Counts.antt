@@ -1,7 +1,7 @@
 -- The counts of a row or a tally, one by one.
 use Rattle.std.proofs.Common.{◌≡◌, ℕ, zero, suc, ◌*◌, ◌/◌, ◌^◌, ◌<◌, List, [], ◌∷◌, map, length, take, drop, Some, ap, ◌∙◌, add_comm, mul-zero, mul-suc, arith, w64, SFits, to_z, of_z}
 use mir.ValLaws.{to_z-Fits}
-use Rattle.std.specs.List.{AllByRecursion as All, slice_get}
+use Rattle.std.specs.List.{AllByRecursion, slice_get}
 use Rattle.std.proofs.ByRecursion.{All-map, All-weaker}
 use Rattle.std.proofs.lemmas.List.{drop-drop, length-map}
 use Rattle.record.specs.Little.{field, numbers, spread}
@@ -43,14 +43,14 @@ module _ (bs : List ℕ) where
     pub row-bytes : spread 2 (row_in bs) ≡ take (length bs / 2 * 2) bs
     row-bytes = spread-numbers 2 (length bs / 2) bs (omega arith) all
 
-    pub row_fits : All (λ n. n < 2 ^ 16) (row_in bs)
+    pub row_fits : AllByRecursion (λ n. n < 2 ^ 16) (row_in bs)
     row_fits = numbers-lt 2 (length bs / 2) bs (omega arith) all
 
-    bits_fit : All (λ n. n < 2 ^ 64) (numbers 8 (length bs / 8) bs)
+    bits_fit : AllByRecursion (λ n. n < 2 ^ 64) (numbers 8 (length bs / 8) bs)
     bits_fit = numbers-lt 8 (length bs / 8) bs (omega arith) all
 
     pub tally-bytes : spread 8 (map (of_z w64) (tally_in bs)) ≡ take (length bs / 8 * 8) bs
     tally-bytes = ap (spread 8) (signed (numbers 8 (length bs / 8) bs) bits_fit) ∙ spread-numbers 8 (length bs / 8) bs (omega arith) all
 
-    pub tally-fits : All (SFits w64) (tally_in bs)
+    pub tally-fits : AllByRecursion (SFits w64) (tally_in bs)
     tally-fits = All-map (SFits w64) (to_z w64) (numbers 8 (length bs / 8) bs) (All-weaker (λ n. n < 2 ^ 64) (λ n. SFits w64 (to_z w64 n)) (λ n h. to_z-Fits w64 n (record { fits = h })) (numbers 8 (length bs / 8) bs) bits_fit)

@@ -1,13 +1,13 @@
 -- Numbers and their little-endian bytes, there and back.
 use Rattle.std.proofs.Common.{◌≡◌, ℕ, zero, suc, ◌+◌, ◌*◌, ◌/◌, ◌%◌, ◌^◌, ◌<◌, ◌≤◌, List, [], ◌∷◌, ◌++◌, length, take, drop, sym, refl, ap, subst, suc-mul, zero-mul, arith, take-add}
 use native.Mathlib.Nat.{pow-succ'}
-use Rattle.std.specs.List.{AllByRecursion as All}
+use Rattle.std.specs.List.{AllByRecursion}
 use Rattle.std.proofs.ByRecursion.{All-take, All-drop}
 use Rattle.std.proofs.lemmas.List.{length-take, length-drop, length-append, append_assoc, take_at, drop_at}
 use Rattle.record.specs.Little.{value, little, field, numbers, spread}
 
 abbrev pub Bytes : List ℕ → Type 0
-Bytes bs = All (λ b. b < 256) bs
+Bytes bs = AllByRecursion (λ b. b < 256) bs
 
 pub length-little : (k n : ℕ) → length (little k n) ≡ k
 length-little zero n = refl
@@ -62,14 +62,14 @@ spread-numbers w (suc k) bs h all =
     let f = little-field 0 w bs (omega arith) all in
     rw (f, e, ← take-add w (k * w) bs) (ap (λ (n : ℕ). take n bs) (omega arith))
 
-pub numbers-spread : (w : ℕ) (ns tail : List ℕ) → All (λ n. n < 256 ^ w) ns → numbers w (length ns) (spread w ns ++ tail) ≡ ns
+pub numbers-spread : (w : ℕ) (ns tail : List ℕ) → AllByRecursion (λ n. n < 256 ^ w) ns → numbers w (length ns) (spread w ns ++ tail) ≡ ns
 numbers-spread w [] tail all = refl
 numbers-spread w (n ∷ ns) tail (h, hs) =
     let l = length-little w n in
     let a = append_assoc (little w n) (spread w ns) tail in
     rw (a, take_at (little w n) (spread w ns ++ tail) w l, drop_at (little w n) (spread w ns ++ tail) w l, value-little w n h, numbers-spread w ns tail hs)
 
-pub numbers-lt : (w k : ℕ) (bs : List ℕ) → k * w ≤ length bs → Bytes bs → All (λ n. n < 256 ^ w) (numbers w k bs)
+pub numbers-lt : (w k : ℕ) (bs : List ℕ) → k * w ≤ length bs → Bytes bs → AllByRecursion (λ n. n < 256 ^ w) (numbers w k bs)
 numbers-lt w zero bs h all = tt
 numbers-lt w (suc k) bs h all =
     let m = suc-mul k w in

@@ -1,7 +1,7 @@
 -- What is written reads back.
 use Rattle.std.proofs.Common.{◌≡◌, ℕ, ◌-◌, ◌*◌, ◌/◌, ◌%◌, ◌^◌, ◌<◌, ◌≤◌, true, ◌&&◌, leb, List, [], ◌∷◌, ◌++◌, map, length, ℤ, pos, negsuc, sym, refl, ap, ◌∙◌, subst, mul-div_cancel, arith, lit<, w64, SFits, to_z, of_z}
 use native.Mathlib.Nat.{mul-mod_left}
-use Rattle.std.specs.List.{AllByRecursion as All}
+use Rattle.std.specs.List.{AllByRecursion}
 use Rattle.std.proofs.lemmas.List.{length-map, take_at, drop_at, append-nil, length-append}
 use Rattle.std.proofs.lemmas.Int.{to_z-of_z}
 use Rattle.std.proofs.lemmas.Bool.Decides.{nat_tests}
@@ -16,10 +16,10 @@ use Rattle.record.proofs.Digits.{value-little, length-spread, numbers-spread}
 abbrev pub Lawful : Entry → Type 0
 Lawful (set_up s k p g) = (s < 2 ^ 32) × (k < 2 ^ 16) × (p < 2 ^ 16) × (g < 2 ^ 32)
 Lawful (opening t) = t < 2 ^ 16
-Lawful (stepping cs) = (1 ≤ length cs) × (length cs ≤ 8) × All (λ n. n < 2 ^ 16) cs
+Lawful (stepping cs) = (1 ≤ length cs) × (length cs ≤ 8) × AllByRecursion (λ n. n < 2 ^ 16) cs
 Lawful closing = Unit {0}
 Lawful (opened e t h) = (e < 2 ^ 32) × (t < 2 ^ 16) × (h < 2 ^ 32)
-Lawful (published e t cs) = (e < 2 ^ 32) × (t < 2 ^ 16) × (1 ≤ length cs) × (length cs ≤ 8) × All (SFits w64) cs
+Lawful (published e t cs) = (e < 2 ^ 32) × (t < 2 ^ 16) × (1 ≤ length cs) × (length cs ≤ 8) × AllByRecursion (SFits w64) cs
 Lawful (closed e t s) = (e < 2 ^ 32) × (t < 2 ^ 16) × (s < 2 ^ 32)
 Lawful (refused n l p e) = (n < 2 ^ 16) × (l < 2 ^ 16) × (p < 2 ^ 32) × (e < 2 ^ 32)
 Lawful (ended n) = n < 2 ^ 32
@@ -33,7 +33,7 @@ few-spread w n m h e a b =
     let r : n * w % w ≡ 0 = mul-mod_left n w in
     rw (e, r, q) (few n a b)
 
-row-spread : (cs : List ℕ) → All (λ n. n < 2 ^ 16) cs → row_in (spread 2 cs) ≡ cs
+row-spread : (cs : List ℕ) → AllByRecursion (λ n. n < 2 ^ 16) cs → row_in (spread 2 cs) ≡ cs
 row-spread cs h =
     let l = length-spread 2 cs in
     let q : length (spread 2 cs) / 2 ≡ length cs = omega arith in
@@ -43,13 +43,13 @@ of_z-lt : (z : ℤ) → SFits w64 z → of_z w64 z < 2 ^ 64
 of_z-lt (pos n) h = omega (arith, h.sfits)
 of_z-lt (negsuc n) h = omega arith
 
-unsigned : (cs : List ℤ) → All (SFits w64) cs → All (λ n. n < 2 ^ 64) (map (of_z w64) cs) × (map (to_z w64) (map (of_z w64) cs) ≡ cs)
+unsigned : (cs : List ℤ) → AllByRecursion (SFits w64) cs → AllByRecursion (λ n. n < 2 ^ 64) (map (of_z w64) cs) × (map (to_z w64) (map (of_z w64) cs) ≡ cs)
 unsigned [] h = (tt, refl)
 unsigned (z ∷ cs) (h, hs) =
     let rest = unsigned cs hs in
     ((of_z-lt z h, rest.0), rw (to_z-of_z w64 z h, rest.1))
 
-pub tally-spread : (cs : List ℤ) → All (SFits w64) cs → tally_in (spread 8 (map (of_z w64) cs)) ≡ cs
+pub tally-spread : (cs : List ℤ) → AllByRecursion (SFits w64) cs → tally_in (spread 8 (map (of_z w64) cs)) ≡ cs
 tally-spread cs h =
     let ns : List ℕ = map (of_z w64) cs in
     let l = length-spread 8 (map (of_z w64) cs) in

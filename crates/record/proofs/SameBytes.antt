@@ -2,7 +2,7 @@
 use Rattle.std.proofs.Common.{◌≡◌, ℕ, ◌+◌, ◌-◌, ◌*◌, ◌/◌, ◌%◌, ◌^◌, ◌<◌, ◌≤◌, Bool, true, false, cond, ◌&&◌, eqb, leb, List, [], ◌∷◌, ◌++◌, map, length, take, drop, sym, refl, ap, ◌∙◌, subst, mul_comm, arith, take-add, w64, to_z, of_z, eqb-true, leb-true}
 use native.Mathlib.Nat.{div-add-mod}
 use mir.ValLaws.{of_z-to_z}
-use Rattle.std.specs.List.{AllByRecursion as All}
+use Rattle.std.specs.List.{AllByRecursion}
 use Rattle.std.proofs.ByRecursion.{All-take, All-drop}
 use Rattle.std.proofs.lemmas.List.{take_all, length-take, length-drop, take-append-drop, nil_from_length}
 use Rattle.std.proofs.lemmas.Bool.Decides.{nat_tests}
@@ -83,7 +83,7 @@ module _ (b : List ℕ) (all : Bytes b) where
       let l : length b / w * w ≡ length b = omega (arith, mul_comm (length b / w) w) in
       spread-numbers w (length b / w) b (omega arith) all ∙ (ap (λ (n : ℕ). take n b) l ∙ take_all (length b) b (omega arith))
 
-pub signed : (ns : List ℕ) → All (λ n. n < 2 ^ 64) ns → map (of_z w64) (map (to_z w64) ns) ≡ ns
+pub signed : (ns : List ℕ) → AllByRecursion (λ n. n < 2 ^ 64) ns → map (of_z w64) (map (to_z w64) ns) ≡ ns
 signed [] h = refl
 signed (n ∷ ns) (h, hs) = rw (of_z-to_z w64 n (record { fits = h }), signed ns hs)
 

@@ -1,7 +1,7 @@
 -- Every published count is near its true count.
 use Rattle.std.proofs.Common.{◌≡◌, ℕ, suc, ◌*◌, ◌^◌, ◌<◌, ◌≤◌, min, true, false, eqb, leb, List, [], ◌∷◌, ◌++◌, length, ℤ, Some, None, Option, sym, refl, ap, ◌∙◌, subst, mul-le-mul_right, mul-le-mul, mul-le-mul_left, arith, ne_eqb}
 use borrow.Author.Tests.{lt-leb}
-use Rattle.std.specs.List.{AllByRecursion as All}
+use Rattle.std.specs.List.{AllByRecursion}
 use Rattle.std.proofs.lemmas.Int.{ints}
 use Rattle.fault.specs.Told.{Told}
 use Rattle.plan.specs.Plans.{horizon, breadth, cover}
@@ -29,7 +29,7 @@ read_by s class h n =
     let b : eqb s.steps 0 ≡ false = ne_eqb s.steps 0 n in
     rw (a, b)
 
-min-within : (a b : ℕ) (cells : List ℤ) → All (λ cell. Within a cell 0) cells → All (λ cell. Within b cell 0) cells → All (λ cell. Within (min a b) cell 0) cells
+min-within : (a b : ℕ) (cells : List ℤ) → AllByRecursion (λ cell. Within a cell 0) cells → AllByRecursion (λ cell. Within b cell 0) cells → AllByRecursion (λ cell. Within (min a b) cell 0) cells
 min-within a b [] h k = tt
 min-within a b (c ∷ cells) (h, hs) (k, ks) =
     ((omega (arith, ints, h.0, h.1, k.0, k.1), omega (arith, ints, h.0, h.1, k.0, k.1)), min-within a b cells hs ks)
@@ -58,7 +58,7 @@ module _ (p : Making) (lawful : LawfulMaking p) (stands : Stands) (keeps : Keeps
   Following = Keeping p lawful Steady steady
 
   -- a class of a station that has an open epoch
-  near-class : (s : Station) (n : ℕ) (rows : List (List ℕ)) (a class : ℕ) → Following s n rows → is_open s.phase ≡ true → s.steps ≤ horizon → All (λ cell. Within a cell 0) (row_cells p n (length rows)) → class < s.setting.classes → Within (a * breadth p.back s.steps) (lane_at s class).published (true_count class rows)
+  near-class : (s : Station) (n : ℕ) (rows : List (List ℕ)) (a class : ℕ) → Following s n rows → is_open s.phase ≡ true → s.steps ≤ horizon → AllByRecursion (λ cell. Within a cell 0) (row_cells p n (length rows)) → class < s.setting.classes → Within (a * breadth p.back s.steps) (lane_at s class).published (true_count class rows)
   near-class s n rows a class f inside few w h =
       let a' = min a (2 ^ 31) in
       let w' = min-within a (2 ^ 31) (row_cells p n (length rows)) w (narrow-rows p lawful n (length rows)) in

@@ -1,7 +1,7 @@
 -- The worked examples, by computation.
 use Rattle.std.proofs.Common.{List, ℤ, refl, lit<, lit≤, w32, SFits}
 use mir.Facts.{sfits_lit}
-use Rattle.std.specs.List.{AllByRecursion as All}
+use Rattle.std.specs.List.{AllByRecursion}
 use Rattle.plan.specs.Plans.{horizon, holds, holding, total, greatest, depth}
 use Rattle.plan.specs.Known.{dyadic, power_in}
 use Rattle.plan.specs.Dyadics.{dyadic-falls}
@@ -12,7 +12,7 @@ pub worked-run : WorkedRun
 unfolding dyadic power_in depth greatest holding total holds
 worked-run = (refl, refl)
 
-lawful-twice : (cells : List ℤ) → All (SFits w32) cells → LawfulMaking (twice cells)
+lawful-twice : (cells : List ℤ) → AllByRecursion (SFits w32) cells → LawfulMaking (twice cells)
 lawful-twice cells h = record { some = lit≤ tt; few = lit≤ tt; falls = dyadic-falls horizon; narrow = h }
 
 pub worked-pair : WorkedPair

@@ -1,6 +1,6 @@
 -- What an accepted call tells.
 use Rattle.std.proofs.Common.{◌≡◌, ℕ, suc, ◌<◌, ◌≤◌, Bool, true, false, cond, not, ◌&&◌, eqb, ltb, leb, ◌⊎◌, List, [], ◌∷◌, length, Some, None, Option, refl, inl, inr, arith, ltb-false, eqb-true, leb-false, leb-true}
-use Rattle.std.specs.List.{AllByRecursion as All}
+use Rattle.std.specs.List.{AllByRecursion}
 use Rattle.fault.specs.Told.{Told}
 use Rattle.plan.specs.Plans.{horizon, depth_asked}
 use Rattle.runs.specs.Model.{Station, opens, steps, closes, first_told, checks, is_open, epoch_of, free, first_above, refusal}
@@ -10,7 +10,7 @@ none-by true t o h = let z : ◌≡◌ {A = ℕ} 0 1 = cc in absurd (omega arith
 none-by false t o h = (refl, h)
 
 -- a call that is not refused meets none of the conditions
-none-holds : (cs : List (Bool × Told)) → first_told cs ≡ None → All (λ c. c.0 ≡ false) cs
+none-holds : (cs : List (Bool × Told)) → first_told cs ≡ None → AllByRecursion (λ c. c.0 ≡ false) cs
 none-holds [] h = tt
 none-holds ((b, t) ∷ cs) h = let n = none-by b t (first_told cs) h in (n.0, none-holds cs n.1)
 
@@ -53,7 +53,7 @@ open-facts s t h =
 pub record Steps (s : Station) (row : List ℕ) : Type 0 where
   pub inside : is_open s.phase ≡ true
   pub long : length row ≡ s.setting.classes
-  pub small : All (λ x. x ≤ 1000) row
+  pub small : AllByRecursion (λ x. x ≤ 1000) row
   pub more : s.steps < epoch_of s.phase
   pub enough : s.setting.classes ≤ length s.cells
 
@@ -61,7 +61,7 @@ over_by : (b : Bool) (n : ℕ) (m : ℕ) → suc m ≤ cond b 0 (suc n) → (b �
 over_by true n m h = absurd (omega arith)
 over_by false n m h = (refl, omega arith)
 
-none_over : (row : List ℕ) → length row ≤ first_above row → All (λ x. x ≤ 1000) row
+none_over : (row : List ℕ) → length row ≤ first_above row → AllByRecursion (λ x. x ≤ 1000) row
 none_over [] h = tt
 none_over (x ∷ row) h =
     let b = over_by (ltb 1000 x) (first_above row) (length row) h in

@@ -1,6 +1,6 @@
 -- What holds of each class, before and after a row.
 use Rattle.std.proofs.Common.{◌≡◌, ℕ, zero, suc, ◌+◌, ◌<◌, List, [], ◌∷◌, length, get_or, replicate, ℤ, refl, ap, subst, arith}
-use Rattle.std.specs.List.{AllByRecursion as All}
+use Rattle.std.specs.List.{AllByRecursion}
 use Rattle.finisher.specs.Finishers.{Says, after, finishes}
 use Rattle.runs.specs.Model.{Lane, advance, advance_all, answers_to, publish_all, empty_lane}
 
@@ -33,13 +33,13 @@ abbrev pub AllCounts : (ℕ → ℕ → Type 0) → ℕ → List ℕ → Type 0
 AllCounts R class [] = Unit {0}
 AllCounts R class (x ∷ row) = R class x × AllCounts R (suc class) row
 
-pub all-counts : (P : ℕ → Type 0) (class : ℕ) (row : List ℕ) → All P row → AllCounts (λ _. P) class row
+pub all-counts : (P : ℕ → Type 0) (class : ℕ) (row : List ℕ) → AllByRecursion P row → AllCounts (λ _. P) class row
 all-counts P class [] h = tt
 all-counts P class (x ∷ row) (h, hs) = (h, all-counts P (suc class) row hs)
 
 -- a row: R of each count, by its class, and S of each cell
 module _ (P Q : ℕ → Lane → Type 0) (R : ℕ → ℕ → Type 0) (S : ℤ → Type 0) (back : ℕ) (turn : (class : ℕ) (lane : Lane) (x : ℕ) (cell : ℤ) → P class lane → R class x → S cell → Q class (advance back lane x cell)) where
-  pub advance-all : (class : ℕ) (lanes : List Lane) (row : List ℕ) (cells : List ℤ) → AllFrom P class lanes → AllCounts R class row → All S cells → AllFrom Q class (advance_all back lanes row cells)
+  pub advance-all : (class : ℕ) (lanes : List Lane) (row : List ℕ) (cells : List ℤ) → AllFrom P class lanes → AllCounts R class row → AllByRecursion S cells → AllFrom Q class (advance_all back lanes row cells)
   advance-all class [] row cells h r s = tt
   advance-all class (lane ∷ lanes) [] cells h r s = tt
   advance-all class (lane ∷ lanes) (x ∷ row) [] h r s = tt
@@ -69,6 +69,6 @@ publish-all P Q f class [] zs h = tt
 publish-all P Q f class (lane ∷ lanes) [] h = tt
 publish-all P Q f class (lane ∷ lanes) (z ∷ zs) (h, hs) = (f class lane z h, publish-all P Q f (suc class) lanes zs hs)
 
-pub every-cell : (cells : List ℤ) → All (λ _. Unit {0}) cells
+pub every-cell : (cells : List ℤ) → AllByRecursion (λ _. Unit {0}) cells
 every-cell [] = tt
 every-cell (c ∷ cells) = (tt, every-cell cells)

@@ -1,6 +1,6 @@
 -- Two stations that are linked stay linked, and the rest of the second tape stays the rest of the first, moved.
 use Rattle.std.proofs.Common.{◌≡◌, ℕ, suc, ◌≤◌, Bool, false, List, map, length, take, ℤ, pos, ◌+ℤ◌, ◌-ℤ◌, None, Option, sym, ap, ◌∙◌, subst, arith, w64, SFits}
-use Rattle.std.specs.List.{AllByRecursion as All}
+use Rattle.std.specs.List.{AllByRecursion}
 use Rattle.std.proofs.lemmas.List.{length-drop, length-map, length_push}
 use Rattle.plan.specs.Plans.{horizon, Falls, back_asked}
 use Rattle.plan.proofs.Asked.{back-asked}
@@ -15,7 +15,7 @@ use Rattle.runs.proofs.Carry.{Seen}
 use Rattle.runs.proofs.Linked.{Linked, back-alike}
 
 -- a row: what changes, and by how much counts and cells differ
-module _ (s t : Station) (v : Sight) (l : Linked s t v) (h : Sound s) (falls : Falls s.back) (row row' : List ℕ) (f : Steps s row) (few : suc s.steps ≤ horizon) (fits : All (SFits w64) (map release (advanced s row))) (limit : s.setting.classes ≤ class_limit) (new : Option Change) (more shift : ℕ → ℤ) (carries : (c : ℕ) → Carries v.change new more shift s.steps (s.back (suc s.steps)) c) (counts : Paired (λ c x y. pos y ≡ pos x +ℤ more c) 0 row row') (cells : Paired (λ c x y. y ≡ x -ℤ shift c) 0 (take s.setting.classes s.cells) (take s.setting.classes t.cells)) where
+module _ (s t : Station) (v : Sight) (l : Linked s t v) (h : Sound s) (falls : Falls s.back) (row row' : List ℕ) (f : Steps s row) (few : suc s.steps ≤ horizon) (fits : AllByRecursion (SFits w64) (map release (advanced s row))) (limit : s.setting.classes ≤ class_limit) (new : Option Change) (more shift : ℕ → ℤ) (carries : (c : ℕ) → Carries v.change new more shift s.steps (s.back (suc s.steps)) c) (counts : Paired (λ c x y. pos y ≡ pos x +ℤ more c) 0 row row') (cells : Paired (λ c x y. y ≡ x -ℤ shift c) 0 (take s.setting.classes s.cells) (take s.setting.classes t.cells)) where
   k : ℕ
   k = back_asked s.back (suc s.steps)
 

@@ -1,6 +1,6 @@
 -- Two rows of classes side by side: what links them before a row links them after it, and their releases are equal.
 use Rattle.std.proofs.Common.{◌≡◌, ℕ, zero, suc, ◌+◌, ◌<◌, ◌≤◌, cond, ◌&&◌, eqb, leb, List, [], ◌∷◌, ◌++◌, map, length, get_or, take, drop, ℤ, pos, ◌+ℤ◌, ◌-ℤ◌, Some, None, Option, sym, refl, ap, ◌∙◌, subst, ⊎_elim, arith, w64, SFits}
-use Rattle.std.specs.List.{range_with_len, AllByRecursion as All}
+use Rattle.std.specs.List.{range_with_len, AllByRecursion}
 use Rattle.std.proofs.lemmas.List.{length_push}
 use Rattle.std.proofs.lemmas.Int.{ints}
 use Rattle.finisher.specs.Finishers.{Call, begins, finishes, after, Says, Alike, LawfulCall, class_limit}
@@ -151,7 +151,7 @@ alike-after one other call h a calls class release l f = a (call ∷ calls) clas
 pub alike-begun : (one other : Says) → Alike one other → Alike (after begins one) (after begins other)
 alike-begun one other a = alike-after one other begins tt a
 
-pub alike-row : (one other : Says) (class : ℕ) (zs : List ℤ) → class + length zs ≤ class_limit → All (SFits w64) zs → Alike one other → (answers_to one class zs ≡ answers_to other class zs) × Alike (says_after one class zs) (says_after other class zs)
+pub alike-row : (one other : Says) (class : ℕ) (zs : List ℤ) → class + length zs ≤ class_limit → AllByRecursion (SFits w64) zs → Alike one other → (answers_to one class zs ≡ answers_to other class zs) × Alike (says_after one class zs) (says_after other class zs)
 alike-row one other class [] h f a = (refl, a)
 alike-row one other class (z ∷ zs) h (f, fs) a =
     let fits : LawfulCall (finishes class z) = (omega arith, f) in

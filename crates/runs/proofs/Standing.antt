@@ -1,6 +1,6 @@
 -- A row, finished class after class: each class stands at its true count, with the bound of its noise.
 use Rattle.std.proofs.Common.{◌≡◌, ℕ, suc, ◌+◌, ◌<◌, ◌≤◌, List, [], ◌∷◌, ◌++◌, map, length, ℤ, ◌+ℤ◌, sym, refl, ap, ◌∙◌, subst, arith, w64, SFits}
-use Rattle.std.specs.List.{AllByRecursion as All}
+use Rattle.std.specs.List.{AllByRecursion}
 use Rattle.std.proofs.ByRecursion.{All-append}
 use Rattle.std.proofs.lemmas.List.{append-nil, append_assoc, length-map, length_push}
 use Rattle.std.proofs.lemmas.Int.{ints}
@@ -14,7 +14,7 @@ abbrev pub finishes_of : ℕ → List ℤ → List Call
 finishes_of class [] = []
 finishes_of class (z ∷ zs) = finishes class z ∷ finishes_of (suc class) zs
 
-pub lawful-finishes : (class : ℕ) (zs : List ℤ) → class + length zs ≤ class_limit → All (SFits w64) zs → Lawful (finishes_of class zs)
+pub lawful-finishes : (class : ℕ) (zs : List ℤ) → class + length zs ≤ class_limit → AllByRecursion (SFits w64) zs → Lawful (finishes_of class zs)
 lawful-finishes class [] h f = tt
 lawful-finishes class (z ∷ zs) h (f, fs) = ((omega arith, f), lawful-finishes (suc class) zs (omega arith) fs)
 
@@ -60,7 +60,7 @@ module _ (says : Says) (stands : Stands) (keeps : Keeps says stands) where
     ready-later class (suc from) z l lawful f (omega arith) lanes rs,
   )
 
-  pub stand-all : (class : ℕ) (lanes : List Lane) (l : List Call) (now : Says) → ((m : List Call) → now m ≡ says (l ++ m)) → Lawful l → class + length lanes ≤ class_limit → All (SFits w64) (map release lanes) → AllFrom (λ _ lane. lane.count ≤ count_limit) class lanes → AllFrom (Ready l) class lanes → AllFrom (Stand (l ++ finishes_of class (map release lanes))) class (publish_all lanes (answers_to now class (map release lanes)))
+  pub stand-all : (class : ℕ) (lanes : List Lane) (l : List Call) (now : Says) → ((m : List Call) → now m ≡ says (l ++ m)) → Lawful l → class + length lanes ≤ class_limit → AllByRecursion (SFits w64) (map release lanes) → AllFrom (λ _ lane. lane.count ≤ count_limit) class lanes → AllFrom (Ready l) class lanes → AllFrom (Stand (l ++ finishes_of class (map release lanes))) class (publish_all lanes (answers_to now class (map release lanes)))
   stand-all class [] l now same lawful h f k r = tt
   stand-all class (lane ∷ lanes) l now same lawful h (f, fs) (k, ks) (r, rs) =
       let z = release lane in

@@ -1,6 +1,6 @@
 -- A station and the calls that it has had: its cells, true counts and noise by the rows accepted, and where its finisher stands.
 use Rattle.std.proofs.Common.{◌≡◌, ℕ, zero, suc, ◌+◌, ◌-◌, ◌*◌, ◌^◌, ◌<◌, ◌≤◌, List, [], ◌∷◌, ◌++◌, map, length, get_or, take, drop, replicate, ℤ, pos, negsuc, ◌+ℤ◌, sym, refl, ap, ◌∙◌, subst, mul-le-mul_left, mul-zero, mul-suc, arith, take-add, w32, w64, SFits}
-use Rattle.std.specs.List.{AllByRecursion as All}
+use Rattle.std.specs.List.{AllByRecursion}
 use Rattle.std.proofs.ByRecursion.{All-append, All-take, All-drop, All-weaker}
 use Rattle.std.proofs.lemmas.List.{append_assoc, drop-drop, length-map, length_push, get_or_at}
 use Rattle.std.proofs.lemmas.Int.{ints}
@@ -30,7 +30,7 @@ pub record Track (p : Making) (s : Station) (n : ℕ) (rows : List (List ℕ)) (
   pub rows_few : length rows ≤ n
   pub counts : AllFrom (λ class lane. lane.count ≡ true_count class rows) 0 s.lanes
   pub small : AllFrom (λ _ lane. lane.count ≤ 1000 * s.steps) 0 s.lanes
-  pub noise : (a : ℕ) → All (λ cell. Within a cell 0) (row_cells p n (length rows)) → AllFrom (λ _ lane. NoiseBound a p.back lane.noise) 0 s.lanes
+  pub noise : (a : ℕ) → AllByRecursion (λ cell. Within a cell 0) (row_cells p n (length rows)) → AllFrom (λ _ lane. NoiseBound a p.back lane.noise) 0 s.lanes
 
 -- new classes, none past the limit
 new-below : (P : ℕ → Lane → Type 0) (limit : ℕ) → ((class : ℕ) → class < limit → P class empty_lane) → (class n : ℕ) → class + n ≤ limit → AllFrom P class (replicate n empty_lane)
@@ -41,11 +41,11 @@ new-all : (P : ℕ → Lane → Type 0) → ((class : ℕ) → P class empty_lan
 new-all P f class zero = tt
 new-all P f class (suc n) = (f class, new-all P f (suc class) n)
 
-all-parts : {X : Type 0} (P : X → Type 0) (xs ys : List X) → All P (xs ++ ys) → All P xs × All P ys
+all-parts : {X : Type 0} (P : X → Type 0) (xs ys : List X) → AllByRecursion P (xs ++ ys) → AllByRecursion P xs × AllByRecursion P ys
 all-parts P [] ys h = (tt, h)
 all-parts P (x ∷ xs) ys (h, hs) = let r = all-parts P xs ys hs in ((h, r.0), r.1)
 
-all-map-from : (P : ℤ → Type 0) (f : Lane → ℤ) (class : ℕ) (lanes : List Lane) → AllFrom (λ _ lane. P (f lane)) class lanes → All P (map f lanes)
+all-map-from : (P : ℤ → Type 0) (f : Lane → ℤ) (class : ℕ) (lanes : List Lane) → AllFrom (λ _ lane. P (f lane)) class lanes → AllByRecursion P (map f lanes)
 all-map-from P f class [] h = tt
 all-map-from P f class (lane ∷ lanes) (h, hs) = (h, all-map-from P f (suc class) lanes hs)
 
@@ -130,7 +130,7 @@ module _ (p : Making) (lawful-parts : LawfulMaking p) (s : Station) (n : ℕ) (r
         noise = t.noise;
       }
 
-pub narrow-rows : (p : Making) → LawfulMaking p → (m r : ℕ) → All (λ cell. Within (2 ^ 31) cell 0) (row_cells p m r)
+pub narrow-rows : (p : Making) → LawfulMaking p → (m r : ℕ) → AllByRecursion (λ cell. Within (2 ^ 31) cell 0) (row_cells p m r)
 narrow-rows p lawful-parts m r =
     All-take (λ cell. Within (2 ^ 31) cell 0) (p.setting.classes * r) _ (All-drop (λ cell. Within (2 ^ 31) cell 0) (p.setting.classes * m - p.setting.classes * r) p.cells (All-weaker (SFits w32) (λ cell. Within (2 ^ 31) cell 0) narrow-cell p.cells lawful-parts.narrow))
 
@@ -185,9 +185,9 @@ module _ (p : Making) (lawful-parts : LawfulMaking p) (s : Station) (n : ℕ) (r
       (λ class lane x cell c e _. length_push lane.noise _ ∙ omega arith)
       0 s.lanes row _ h.noise-long (all-counts (λ x. x ≤ 1000) 0 row f.small) (every-cell (take s.setting.classes s.cells))
 
-  noise-now : (a : ℕ) → All (λ cell. Within a cell 0) (row_cells p (suc n) (suc (length rows))) → AllFrom (λ _ lane. NoiseBound a p.back lane.noise) 0 (advanced s row)
+  noise-now : (a : ℕ) → AllByRecursion (λ cell. Within a cell 0) (row_cells p (suc n) (suc (length rows))) → AllFrom (λ _ lane. NoiseBound a p.back lane.noise) 0 (advanced s row)
   noise-now a w =
-      let parts = all-parts (λ cell. Within a cell 0) (row_cells p n (length rows)) (take s.setting.classes s.cells) (subst (All (λ cell. Within a cell 0)) more-cells w) in
+      let parts = all-parts (λ cell. Within a cell 0) (row_cells p n (length rows)) (take s.setting.classes s.cells) (subst (AllByRecursion (λ cell. Within a cell 0)) more-cells w) in
       let before = all-from-both (λ _ lane. NoiseBound a p.back lane.noise) (λ _ lane. length lane.noise ≡ s.steps) 0 s.lanes (t.noise a parts.0) h.noise-long in
       advance-all (λ _ lane. NoiseBound a p.back lane.noise × (length lane.noise ≡ s.steps)) (λ _ lane. NoiseBound a p.back lane.noise) (λ _ x. x ≤ 1000) (λ cell. Within a cell 0) _
       (λ class lane x cell b e w'. subst (λ (k : ℕ). NoiseBound a p.back (lane.noise ++ (cell +ℤ noise_after lane.noise k) ∷ [])) (sym back-now) (noise-more a p.back lawful-parts.falls lane.noise cell s.steps b.1 few-steps w' b.0))
@@ -200,7 +200,7 @@ module _ (p : Making) (lawful-parts : LawfulMaking p) (s : Station) (n : ℕ) (r
       let abc = all-from-both (λ _ lane. NoiseBound (2 ^ 31) p.back lane.noise × (length lane.noise ≡ suc s.steps)) (λ _ lane. lane.count ≤ 1000 * suc s.steps) 0 (advanced s row) ab small-now in
       all-from-weaker (λ _ lane. (NoiseBound (2 ^ 31) p.back lane.noise × (length lane.noise ≡ suc s.steps)) × (lane.count ≤ 1000 * suc s.steps)) (λ _ lane. SFits w64 (release lane)) (λ class lane x. release-fits p.back (suc s.steps) lane few-steps x.0.1 x.1 x.0.0) 0 (advanced s row) abc
 
-  pub releases-fit : All (SFits w64) (map release (advanced s row))
+  pub releases-fit : AllByRecursion (SFits w64) (map release (advanced s row))
   releases-fit = all-map-from (SFits w64) release 0 (advanced s row) fits-now
 
   pub lawful-row : Lawful (finishes_of 0 (map release (advanced s row)))
@@ -219,7 +219,7 @@ module _ (p : Making) (lawful-parts : LawfulMaking p) (s : Station) (n : ℕ) (r
         rows_few = omega (arith, t.rows_few);
         counts = publish-all (λ class lane. lane.count ≡ true_count class (rows ++ row ∷ [])) (λ class lane. lane.count ≡ true_count class (rows ++ row ∷ [])) (λ _ _ _ x. x) 0 (advanced s row) _ counts-now;
         small = publish-all (λ _ lane. lane.count ≤ 1000 * suc s.steps) (λ _ lane. lane.count ≤ 1000 * suc s.steps) (λ _ _ _ x. x) 0 (advanced s row) _ small-now;
-        noise = λ a w. publish-all (λ _ lane. NoiseBound a p.back lane.noise) (λ _ lane. NoiseBound a p.back lane.noise) (λ _ _ _ x. x) 0 (advanced s row) _ (noise-now a (subst (λ (k : ℕ). All (λ cell. Within a cell 0) (row_cells p (suc n) k)) (longer ∙ omega arith) w));
+        noise = λ a w. publish-all (λ _ lane. NoiseBound a p.back lane.noise) (λ _ lane. NoiseBound a p.back lane.noise) (λ _ _ _ x. x) 0 (advanced s row) _ (noise-now a (subst (λ (k : ℕ). AllByRecursion (λ cell. Within a cell 0) (row_cells p (suc n) k)) (longer ∙ omega arith) w));
       }
 
   pub stand-step : (stands : Stands) (keeps : Keeps p.says stands) → AllFrom (Stand p.says stands keeps l) 0 s.lanes → AllFrom (Stand p.says stands keeps (l ++ finishes_of 0 (map release (advanced s row)))) 0 (after_row s row).lanes

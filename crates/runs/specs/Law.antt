@@ -1,7 +1,7 @@
 -- The law of paired runs.
 use Rattle.std.specs.Prelude.{◌≡◌, ℕ, zero, suc, ◌+◌, ◌-◌, ◌*◌, ◌<◌, ◌≤◌, Bool, false, cond, ◌↔◌, List, [], ◌∷◌, ◌++◌, map, length, take, drop, ℤ, pos, negsuc, ◌+ℤ◌, FitsSigned, ◌==◌, slice_index_or}
 use Rattle.std.specs.Int.{w32}
-use Rattle.std.specs.List.{AllByRecursion as All, range_with_len}
+use Rattle.std.specs.List.{AllByRecursion, range_with_len}
 use Rattle.plan.specs.Plans.{horizon, Falls, AgreeTo, cover, depth, breadth}
 use Rattle.finisher.specs.Finishers.{Says, Alike, Within}
 use Rattle.finisher.specs.Finishers as finisher
@@ -20,7 +20,7 @@ pub record LawfulMaking (p : Making) : Type 0 where
   pub some : 1 ≤ p.setting.classes
   pub few : p.setting.classes ≤ 8
   pub falls : Falls p.back
-  pub narrow : All (FitsSigned w32) p.cells
+  pub narrow : AllByRecursion (FitsSigned w32) p.cells
 
 abbrev pub make : Making → Station
 make p = made p.setting p.back p.cells p.says
@@ -84,7 +84,7 @@ abbrev pub Accurate : Making → Type 0
 Accurate p =
     (calls : List Call) (row : List ℕ) (step a class : ℕ)
     → AnswerTo p calls (steps row) (stepped step)
-    → All (λ cell. Within a cell 0) (epoch_cells p (calls ++ steps row ∷ []))
+    → AllByRecursion (λ cell. Within a cell 0) (epoch_cells p (calls ++ steps row ∷ []))
     → class < p.setting.classes
     → (count : ℤ) × AnswerTo p (calls ++ steps row ∷ []) (reads class) (published count)
     × Within (a * breadth p.back step) count (true_count class (epoch_rows [] (calls ++ steps row ∷ []) (answers (make p) (calls ++ steps row ∷ []))))

@@ -2,7 +2,7 @@
 use Rattle.std.proofs.Common.{◌≡◌, ℕ, zero, suc, ◌+◌, ◌-◌, ◌*◌, ◌^◌, ◌<◌, ◌≤◌, true, false, cond, ltb, List, [], ◌∷◌, length, get_or, ℤ, pos, negsuc, ◌+ℤ◌, ap, arith, w32, SFits}
 use lib.IntN.{sub_ℕ}
 use lib.Signed.{mag}
-use Rattle.std.specs.List.{AllByRecursion as All}
+use Rattle.std.specs.List.{AllByRecursion}
 use Rattle.plan.specs.Plans.{horizon, Falls, cover}
 use Rattle.plan.specs.Covers.{cover-zero, cover-step, cover-length}
 use Rattle.sketch.specs.Noise.{cell_of, sum_of, noise_of, NoiseLaws}
@@ -28,12 +28,12 @@ mag-add (pos a) (negsuc b) = omega (arith, mag-sub a (suc b))
 mag-add (negsuc a) (pos b) = omega (arith, mag-sub b (suc a))
 mag-add (negsuc a) (negsuc b) = omega arith
 
-cell-small : (cells : List ℤ) → All (SFits w32) cells → (i : ℕ) → mag (get_or cells i (pos 0)) < 2 ^ 31
+cell-small : (cells : List ℤ) → AllByRecursion (SFits w32) cells → (i : ℕ) → mag (get_or cells i (pos 0)) < 2 ^ 31
 cell-small [] fits i = omega arith
 cell-small (c ∷ cells) fits zero = fits.0.sfits
 cell-small (c ∷ cells) fits (suc i) = cell-small cells fits.1 i
 
-sum-small : (cells : List ℤ) → All (SFits w32) cells → (ts : List ℕ) → mag (sum_of cells ts) ≤ 2 ^ 31 * length ts
+sum-small : (cells : List ℤ) → AllByRecursion (SFits w32) cells → (ts : List ℕ) → mag (sum_of cells ts) ≤ 2 ^ 31 * length ts
 sum-small cells fits [] = omega arith
 sum-small cells fits (t ∷ ts) =
     let one : mag (cell_of cells t) < 2 ^ 31 = cell-small cells fits _ in
@@ -41,7 +41,7 @@ sum-small cells fits (t ∷ ts) =
     omega (arith, mag-add (cell_of cells t) (sum_of cells ts))
 
 -- |N(t)| is at most 2 ^ 31 * t
-pub noise-small : (p : ℕ → ℕ) (cells : List ℤ) → All (SFits w32) cells → (t : ℕ) → mag (noise_of p cells t) ≤ 2 ^ 31 * t
+pub noise-small : (p : ℕ → ℕ) (cells : List ℤ) → AllByRecursion (SFits w32) cells → (t : ℕ) → mag (noise_of p cells t) ≤ 2 ^ 31 * t
 unfolding noise_of
 noise-small p cells fits t =
     let sum : mag (sum_of cells (cover p t)) ≤ 2 ^ 31 * length (cover p t) = sum-small cells fits (cover p t) in

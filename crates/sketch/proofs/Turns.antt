@@ -2,7 +2,7 @@
 use Rattle.std.proofs.Common.{◌≡◌, ℕ, zero, suc, ◌+◌, ◌-◌, ◌*◌, ◌^◌, ◌<◌, ◌≤◌, false, eqb, List, [], ◌∷◌, ◌++◌, length, get_or, take, drop, set, ℤ, pos, ◌+ℤ◌, Ok, Err, sym, refl, ap, ◌∙◌, ap₂, ⊎_elim, not-suc-le-zero, add-one, arith, w32, SFits, ne_eqb}
 use mathlib.Core.Path.{subst⁻¹}
 use lib.Signed.{mag}
-use Rattle.std.specs.List.{AllByRecursion as All}
+use Rattle.std.specs.List.{AllByRecursion}
 use Rattle.std.proofs.lemmas.List.{length-drop, length_push, get_or_append_left, get_or_push, get_or-take, get_or-drop, drop-drop, take_more_set}
 use Rattle.std.proofs.lemmas.Bool.{cases_lt}
 use Rattle.fault.specs.declared.Fault.{Fault}
@@ -79,7 +79,7 @@ module _ (p : ℕ → ℕ) (cells : List ℤ) where
         let some : eqb (suc t) 0 ≡ false = ne_eqb (suc t) 0 (λ e. omega arith) in
         rw (some, before) (ap (λ (s : Step). s.noise) (read_at t h) ∙ ap (noise_of p cells) (add-one t))
 
-    pub noise-fits : All (SFits w32) cells → n ≤ horizon → (t : ℕ) → t ≤ n → mag (noise_after steps t) < 2 ^ 62
+    pub noise-fits : AllByRecursion (SFits w32) cells → n ≤ horizon → (t : ℕ) → t ≤ n → mag (noise_after steps t) < 2 ^ 62
     noise-fits fits u t h =
         let small : mag (noise_of p cells t) ≤ 2 ^ 31 * t = noise-small p cells fits t in
         subst⁻¹ (λ z. mag z < 2 ^ 62) (noise-read t h) (omega arith)

@@ -2,7 +2,7 @@
 use Rattle.std.proofs.Common.{◌≡◌, ℕ, suc, ◌+◌, ◌<◌, ◌≤◌, Bool, true, false, cond, ltb, List, [], ◌∷◌, ◌++◌, map, length, get_or, drop, ℤ, pos, sym, refl, ap, ◌∙◌, add-zero, arith}
 use Rattle.std.proofs.lemmas.List.{drop_all, drop_more, length-map, map_push}
 use Rattle.std.proofs.lemmas.Bool.{le-ltb, lt-ltb, ltb-false}
-use Rattle.std.specs.List.{AllByRecursion as All}
+use Rattle.std.specs.List.{AllByRecursion}
 use Rattle.finisher.specs.Finishers.{Says, after, finishes}
 use Rattle.runs.specs.Model as model
 use Rattle.runs.specs.Model.{first_above, answers_to, publish_all, release, says_after}
@@ -32,11 +32,11 @@ over_none row i e front =
     omega arith
 
 -- a row with no count over has only small counts
-pub all_small : (row : List ℕ) → length row ≤ first_above row → All (λ n. n ≤ 1000) row
+pub all_small : (row : List ℕ) → length row ≤ first_above row → AllByRecursion (λ n. n ≤ 1000) row
 all_small [] h = tt
 all_small (n ∷ row) h = go (ltb 1000 n) refl h (all_small row)
   where
-    go : (b : Bool) → ltb 1000 n ≡ b → suc (length row) ≤ cond b 0 (suc (first_above row)) → (length row ≤ first_above row → All (λ m. m ≤ 1000) row) → All (λ m. m ≤ 1000) (n ∷ row)
+    go : (b : Bool) → ltb 1000 n ≡ b → suc (length row) ≤ cond b 0 (suc (first_above row)) → (length row ≤ first_above row → AllByRecursion (λ m. m ≤ 1000) row) → AllByRecursion (λ m. m ≤ 1000) (n ∷ row)
     go true e k more = absurd (omega arith)
     go false e k more = (ltb-false 1000 n e, more (omega arith))
 

@@ -1,7 +1,7 @@
 //! The classes of a station: what each has counted, its noise at every step, and what was published last.
 
 ghost use Rattle.std.specs.Prelude.{◌≡◌, ℕ, ◌+◌, ◌<◌, ◌≤◌, map, length, take, drop, replicate, slice_index_or};
-ghost use Rattle.std.specs.List.{AllByRecursion as All};
+ghost use Rattle.std.specs.List.{AllByRecursion};
 ghost use Rattle.finisher.specs.Finishers.{after, finishes};
 ghost use Rattle.tape.specs.Tapes.{undrawn};
 ghost use Rattle.runs.specs.Model.{advance, advance_all, empty_lane, noise_after, release, says_after};
@@ -125,7 +125,7 @@ fn serve_all<T: Tape, F: Finisher>(
 )
     requires room { steps < 1024 }
     requires back { back ≤ steps }
-    requires small { All (λ n. n ≤ 1000) row.now }
+    requires small { AllByRecursion (λ n. n ≤ 1000) row.now }
     requires enough { (length row.now ≤ 8) × (length row.now ≤ length lanes.old) × (length row.now ≤ length (T.cells tape.old)) }
     requires bounded { AllBounded steps lanes.old }
     ensures lanes { lanes_of (length row.now) (steps + 1) lanes.new ≡ published_by (F.says finisher.old) (advance_all back (lanes_of (length row.now) steps lanes.old) row.now (take (length row.now) (T.cells tape.old))) }
@@ -205,7 +205,7 @@ impl Table {
         requires room { self.old.steps < 1024 }
         requires back { back ≤ self.old.steps }
         requires whole { length row.now ≡ self.old.classes }
-        requires small { All (λ n. n ≤ 1000) row.now }
+        requires small { AllByRecursion (λ n. n ≤ 1000) row.now }
         requires enough { self.old.classes ≤ length (T.cells tape.old) }
         ensures numbers { (self.new.classes ≡ self.old.classes) × (self.new.steps ≡ self.old.steps + 1) }
         ensures lanes { lanes_of self.old.classes (self.old.steps + 1) self.new.lanes ≡ published_by (F.says finisher.old) (advance_all back (lanes_of self.old.classes self.old.steps self.old.lanes) row.now (take self.old.classes (T.cells tape.old))) }

@@ -5,10 +5,10 @@ use borrow.Author.Gap.{read_sfits}
 use Rattle.std.specs.Int.Count.{ones_in}
 use Rattle.std.specs.Int.Signed.{mag}
 use Rattle.std.specs.Int.{w32}
-use Rattle.std.specs.List.{AllByRecursion as All}
+use Rattle.std.specs.List.{AllByRecursion}
 use Rattle.tape.specs.Tapes.{byte_cells, coins, coin_cells}
 
-pub byte-cells-fit : (xs : List ℕ) → All (FitsSigned w32) (byte_cells xs)
+pub byte-cells-fit : (xs : List ℕ) → AllByRecursion (FitsSigned w32) (byte_cells xs)
 byte-cells-fit [] = tt
 byte-cells-fit (a ∷ []) = tt
 byte-cells-fit (a ∷ b ∷ []) = tt
@@ -24,7 +24,7 @@ less-fits : (n : ℕ) → n ≤ 64 → FitsSigned w32 (pos n -ℤ pos 32)
 less-fits n h =
     record { sfits = elim (nat_lt n 32) as (λ b. mag (cond b (negsuc (32 - suc n)) (pos (n - 32))) < 2 ^ 31) [ true ↦ omega arith | false ↦ omega arith ] }
 
-pub coin-cells-fit : (xs : List ℕ) → All (FitsSigned w32) (coin_cells xs)
+pub coin-cells-fit : (xs : List ℕ) → AllByRecursion (FitsSigned w32) (coin_cells xs)
 coin-cells-fit [] = tt
 coin-cells-fit (a ∷ []) = tt
 coin-cells-fit (a ∷ b ∷ []) = tt

@@ -4,7 +4,7 @@
 
 ghost use Rattle.std.specs.Prelude.{◌≡◌, List, [], length, ℤ, FitsSigned, slice_index};
 ghost use Rattle.std.specs.Int.{w32};
-ghost use Rattle.std.specs.List.{AllByRecursion as All};
+ghost use Rattle.std.specs.List.{AllByRecursion};
 ghost use Rattle.tape.specs.Tapes.{drawn, undrawn, byte_cells, cell_of_coins, coin_cells, on_byte_tape, on_coin_tape};
 ghost use Rattle.tape.specs.Examples.{WorkedTapes};
 ghost use Rattle.tape.specs.Narrow.{byte-cells-fit, coin-cells-fit};
@@ -16,7 +16,7 @@ pub trait Tape {
     ghost cells: { Self → List ℤ };
 
     /// Each cell is a signed number of 32 bits.
-    ghost narrow: { (t : Self) → All (FitsSigned w32) (cells t) };
+    ghost narrow: { (t : Self) → AllByRecursion (FitsSigned w32) (cells t) };
 
     /// How many cells are left.
     fn left(&self) -> usize
