@@ -14,6 +14,7 @@ import sys
 
 # a name that would fall together with a function's of src/, or that is a fact
 OWN = {
+    'advanceAll': 'all_advanced',
     'classCount': 'class_count_of',
     'coinCell': 'cell_of_coins',
     'countsOf': 'number_of_counts',
@@ -22,6 +23,7 @@ OWN = {
     'noiseAt': 'noise_after',
     'notTaken': 'kind_not_taken',
     'publishedRecord': 'record_of_published',
+    'publishAll': 'all_published',
     'replyTo': 'reply_of',
     'handedBack': 'HandedBack',
     'borrowsOf': 'Borrows',

@@ -1,7 +1,7 @@
 //! Writing: a record at the start of some bytes.
 
-ghost use Rattle.std.specs.Prelude.{◌≡◌, ◌+◌, ◌≤◌, ◌&&◌, ◌++◌, length, take, IfOk, nat_le};
-ghost use Rattle.fault.specs.Told.{answered, told};
+ghost use Rattle.std.specs.Prelude.{◌≡◌, ◌+◌, ◌≤◌, ◌++◌, length, take, IfOk};
+ghost use Rattle.fault.specs.Told.{answered};
 ghost use Rattle.record.specs.Little.{little};
 ghost use Rattle.record.specs.Kinds.{bytes_of, closed, ended, opened, opening, published, refused, row_in, set_up, stepping, tally_in};
 ghost use Rattle.record.specs.Seen.{entry_of};
@@ -18,30 +18,33 @@ impl Record<'_> {
         ensures after { out.new ≡ output_after (entry_of self.now) out.old }
         ensures reads_back { IfOk result (λ n. ReadsBack (take n out.new) (entry_of self.now)) }
     {
-        match self {
-            Record::Step { row } => write_step(out, row.bytes),
-            Record::Published {
-                serial,
-                step,
-                tally,
-            } => write_published(out, *serial, *step, tally.bytes),
-            _ => self.write_fixed(out),
+        let counts = self.counts();
+        if counts < 1 || counts > 8 {
+            return Err(Fault {
+                cause: Cause::LengthUnfit(counts),
+                layer: Layer::Record,
+            });
         }
-    }
-
-    /// Stores a record of a kind that has no counts, as `write` does.
-    fn write_fixed(&self, out: &mut [u8]) -> Result<usize, Fault>
-        requires { number_of_counts (entry_of self.now) ≡ 1 }
-        ensures value { answered result ≡ write_of (entry_of self.now) (length out.old) }
-        ensures after { out.new ≡ output_after (entry_of self.now) out.old }
-        ensures reads_back { IfOk result (λ n. ReadsBack (take n out.new) (entry_of self.now)) }
-    {
         let size = self.size();
-        if !has_room(size, out) {
-            return Err(no_room(out));
+        if size > out.len() {
+            return Err(Fault {
+                cause: Cause::NoRoom(out.len()),
+                layer: Layer::Publication,
+            });
         }
         self.store(out);
         Ok(size)
+    }
+
+    /// How many counts it has; 1 for a kind that has none.
+    fn counts(&self) -> usize
+        ensures { result ≡ number_of_counts (entry_of self.now) }
+    {
+        match self {
+            Record::Step { row } => row.len(),
+            Record::Published { tally, .. } => tally.len(),
+            _ => 1,
+        }
     }
 
     /// How many bytes it has, header and body.
@@ -102,76 +105,6 @@ impl Record<'_> {
             } => put_refused(out, *number, *layer, *place, *event),
             Record::End { records } => put_end(out, *records),
         }
-    }
-}
-
-/// Stores a step record with these counts, as `write` does.
-fn write_step(out: &mut [u8], counts: &[u8]) -> Result<usize, Fault>
-    ensures value { answered result ≡ write_of (stepping (row_in counts.now)) (length out.old) }
-    ensures after { out.new ≡ output_after (stepping (row_in counts.now)) out.old }
-    ensures reads_back { IfOk result (λ n. ReadsBack (take n out.new) (stepping (row_in counts.now))) }
-{
-    let many = counts.len() / 2;
-    if !are_few(many) {
-        return Err(unfit(many));
-    }
-    let size = 4 + 2 * many;
-    if !has_room(size, out) {
-        return Err(no_room(out));
-    }
-    put_step(out, counts);
-    Ok(size)
-}
-
-/// Stores a published record with these counts, as `write` does.
-fn write_published(out: &mut [u8], serial: u32, step: u16, counts: &[u8]) -> Result<usize, Fault>
-    ensures value { answered result ≡ write_of (published serial step (tally_in counts.now)) (length out.old) }
-    ensures after { out.new ≡ output_after (published serial step (tally_in counts.now)) out.old }
-    ensures reads_back { IfOk result (λ n. ReadsBack (take n out.new) (published serial step (tally_in counts.now))) }
-{
-    let many = counts.len() / 8;
-    if !are_few(many) {
-        return Err(unfit(many));
-    }
-    let size = 10 + 8 * many;
-    if !has_room(size, out) {
-        return Err(no_room(out));
-    }
-    put_published(out, serial, step, counts);
-    Ok(size)
-}
-
-/// Whether a record can have so many counts.
-fn are_few(counts: usize) -> bool
-    ensures { result ≡ (nat_le 1 counts && nat_le counts 8) }
-{
-    1 <= counts && counts <= 8
-}
-
-/// Whether so many bytes fit the output.
-fn has_room(size: usize, out: &[u8]) -> bool
-    ensures { result ≡ nat_le size (length out.now) }
-{
-    size <= out.len()
-}
-
-/// The refusal of so many counts.
-fn unfit(counts: usize) -> Fault
-    ensures { told result ≡ record { number = 18; layer = 1; place = counts } }
-{
-    Fault {
-        cause: Cause::LengthUnfit(counts),
-        layer: Layer::Record,
-    }
-}
-
-/// The refusal of an output with too little room.
-fn no_room(out: &[u8]) -> Fault
-    ensures { told result ≡ record { number = 19; layer = 7; place = length out.now } }
-{
-    Fault {
-        cause: Cause::NoRoom(out.len()),
-        layer: Layer::Publication,
     }
 }
 

@@ -2,7 +2,7 @@
 use Rattle.std.proofs.Common.{◌≡◌, ℕ, zero, suc, ◌+◌, ◌<◌, List, [], ◌∷◌, length, get_or, replicate, ℤ, refl, ap, subst, arith}
 use Rattle.std.specs.List.{AllByRecursion}
 use Rattle.finisher.specs.Finishers.{Says, after, finishes}
-use Rattle.runs.specs.Model.{Lane, advance, advance_all, answers_to, publish_all, empty_lane}
+use Rattle.runs.specs.Model.{Lane, advance, all_advanced, answers_to, all_published, empty_lane}
 
 -- a fact of each class from one on
 abbrev pub AllFrom : (ℕ → Lane → Type 0) → ℕ → List Lane → Type 0
@@ -39,14 +39,14 @@ all-counts P class (x ∷ row) (h, hs) = (h, all-counts P (suc class) row hs)
 
 -- a row: R of each count, by its class, and S of each cell
 module _ (P Q : ℕ → Lane → Type 0) (R : ℕ → ℕ → Type 0) (S : ℤ → Type 0) (back : ℕ) (turn : (class : ℕ) (lane : Lane) (x : ℕ) (cell : ℤ) → P class lane → R class x → S cell → Q class (advance back lane x cell)) where
-  pub advance-all : (class : ℕ) (lanes : List Lane) (row : List ℕ) (cells : List ℤ) → AllFrom P class lanes → AllCounts R class row → AllByRecursion S cells → AllFrom Q class (advance_all back lanes row cells)
+  pub advance-all : (class : ℕ) (lanes : List Lane) (row : List ℕ) (cells : List ℤ) → AllFrom P class lanes → AllCounts R class row → AllByRecursion S cells → AllFrom Q class (all_advanced back lanes row cells)
   advance-all class [] row cells h r s = tt
   advance-all class (lane ∷ lanes) [] cells h r s = tt
   advance-all class (lane ∷ lanes) (x ∷ row) [] h r s = tt
   advance-all class (lane ∷ lanes) (x ∷ row) (cell ∷ cells) (h, hs) (r, rs) (s, ss) =
       (turn class lane x cell h r s, advance-all (suc class) lanes row cells hs rs ss)
 
-pub length-advance : (back : ℕ) (lanes : List Lane) (row : List ℕ) (cells : List ℤ) → length row ≡ length lanes → length cells ≡ length lanes → length (advance_all back lanes row cells) ≡ length lanes
+pub length-advance : (back : ℕ) (lanes : List Lane) (row : List ℕ) (cells : List ℤ) → length row ≡ length lanes → length cells ≡ length lanes → length (all_advanced back lanes row cells) ≡ length lanes
 length-advance back [] row cells r c = refl
 length-advance back (lane ∷ lanes) [] cells r c = absurd (omega arith)
 length-advance back (lane ∷ lanes) (x ∷ row) [] r c = absurd (omega arith)
@@ -56,7 +56,7 @@ pub length-answers : (says : Says) (class : ℕ) (zs : List ℤ) → length (ans
 length-answers says class [] = refl
 length-answers says class (z ∷ zs) = ap suc (length-answers (after (finishes class z) says) (suc class) zs)
 
-pub length-publish : (lanes : List Lane) (zs : List ℤ) → length zs ≡ length lanes → length (publish_all lanes zs) ≡ length lanes
+pub length-publish : (lanes : List Lane) (zs : List ℤ) → length zs ≡ length lanes → length (all_published lanes zs) ≡ length lanes
 length-publish [] zs h = refl
 length-publish (lane ∷ lanes) [] h = absurd (omega arith)
 length-publish (lane ∷ lanes) (z ∷ zs) h = ap suc (length-publish lanes zs (omega arith))
@@ -64,7 +64,7 @@ length-publish (lane ∷ lanes) (z ∷ zs) h = ap suc (length-publish lanes zs (
 abbrev pub publish : Lane → ℤ → Lane
 publish lane z = record { count = lane.count; noise = lane.noise; published = z }
 
-pub publish-all : (P Q : ℕ → Lane → Type 0) → ((class : ℕ) (lane : Lane) (z : ℤ) → P class lane → Q class (publish lane z)) → (class : ℕ) (lanes : List Lane) (zs : List ℤ) → AllFrom P class lanes → AllFrom Q class (publish_all lanes zs)
+pub publish-all : (P Q : ℕ → Lane → Type 0) → ((class : ℕ) (lane : Lane) (z : ℤ) → P class lane → Q class (publish lane z)) → (class : ℕ) (lanes : List Lane) (zs : List ℤ) → AllFrom P class lanes → AllFrom Q class (all_published lanes zs)
 publish-all P Q f class [] zs h = tt
 publish-all P Q f class (lane ∷ lanes) [] h = tt
 publish-all P Q f class (lane ∷ lanes) (z ∷ zs) (h, hs) = (f class lane z h, publish-all P Q f (suc class) lanes zs hs)

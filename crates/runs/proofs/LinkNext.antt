@@ -5,7 +5,7 @@ use Rattle.std.proofs.lemmas.List.{length-drop, length-map, length_push}
 use Rattle.plan.specs.Plans.{horizon, Falls, back_asked}
 use Rattle.plan.proofs.Asked.{back-asked}
 use Rattle.finisher.specs.Finishers.{Alike, class_limit}
-use Rattle.runs.specs.Model.{Setting, Station, advanced, advance_all, release, answers_to, says_after, publish_all, after_row}
+use Rattle.runs.specs.Model.{Setting, Station, advanced, all_advanced, release, answers_to, says_after, all_published, after_row}
 use Rattle.runs.specs.Runs.{Change, Sight}
 use Rattle.runs.proofs.Facts.{Steps}
 use Rattle.runs.proofs.Lanes.{AllFrom, all-counts, advance-all, every-cell}
@@ -34,10 +34,10 @@ module _ (s t : Station) (v : Sight) (l : Linked s t v) (h : Sound s) (falls : F
   second-classes : s.setting.classes ≡ t.setting.classes
   second-classes = ap (λ (x : Setting). x.classes) l.setting
 
-  second-advanced : advance_all (back_asked s.back (suc s.steps)) t.lanes row' (take s.setting.classes t.cells) ≡ advanced t row'
+  second-advanced : all_advanced (back_asked s.back (suc s.steps)) t.lanes row' (take s.setting.classes t.cells) ≡ advanced t row'
   second-advanced =
-      ap (λ (b : ℕ). advance_all b t.lanes row' (take s.setting.classes t.cells)) second_back
-      ∙ ap (λ (n : ℕ). advance_all (back_asked t.back (suc t.steps)) t.lanes row' (take n t.cells)) second-classes
+      ap (λ (b : ℕ). all_advanced b t.lanes row' (take s.setting.classes t.cells)) second_back
+      ∙ ap (λ (n : ℕ). all_advanced (back_asked t.back (suc t.steps)) t.lanes row' (take n t.cells)) second-classes
 
   advanced-linked : Paired (LaneLinked new) 0 (advanced s row) (advanced t row')
   advanced-linked =
@@ -73,7 +73,7 @@ module _ (s t : Station) (v : Sight) (l : Linked s t v) (h : Sound s) (falls : F
         serial = l.serial;
         taken = ap suc l.taken;
         phase = l.phase;
-        lanes = subst (λ (zs : List ℤ). Paired (LaneLinked new) 0 (publish_all (advanced s row) (answers_to s.says 0 (map release (advanced s row)))) (publish_all (advanced t row') zs)) same-answers (publish-linked new 0 (advanced s row) (advanced t row') (answers_to s.says 0 (map release (advanced s row))) advanced-linked);
+        lanes = subst (λ (zs : List ℤ). Paired (LaneLinked new) 0 (all_published (advanced s row) (answers_to s.says 0 (map release (advanced s row)))) (all_published (advanced t row') zs)) same-answers (publish-linked new 0 (advanced s row) (advanced t row') (answers_to s.says 0 (map release (advanced s row))) advanced-linked);
         seen = seen;
         unused = unused;
       }

@@ -4,7 +4,7 @@ use Rattle.std.specs.List.{range_with_len, AllByRecursion}
 use Rattle.std.proofs.lemmas.List.{length_push}
 use Rattle.std.proofs.lemmas.Int.{ints}
 use Rattle.finisher.specs.Finishers.{Call, begins, finishes, after, Says, Alike, LawfulCall, class_limit}
-use Rattle.runs.specs.Model.{Lane, noise_after, advance, advance_all, release, publish_all, answers_to, says_after}
+use Rattle.runs.specs.Model.{Lane, noise_after, advance, all_advanced, release, all_published, answers_to, says_after}
 use Rattle.runs.proofs.Lanes.{AllFrom}
 use Rattle.runs.specs.Runs.{Change, moved_by}
 use Rattle.runs.proofs.Facts.{le-or-gt}
@@ -103,7 +103,7 @@ module _ (old new : Option Change) (more shift : ℕ → ℤ) (t k : ℕ) (short
             (le-or-gt i t);
       }
 
-  pub lanes_step : (class : ℕ) (as' bs : List Lane) (row row' : List ℕ) (cells cells' : List ℤ) → ((c : ℕ) → Carries old new more shift t k c) → AllFrom (λ _ lane. length lane.noise ≡ t) class as' → Paired (LaneLinked old) class as' bs → Paired (λ c x y. pos y ≡ pos x +ℤ more c) class row row' → Paired (λ c x y. y ≡ x -ℤ shift c) class cells cells' → Paired (LaneLinked new) class (advance_all k as' row cells) (advance_all k bs row' cells')
+  pub lanes_step : (class : ℕ) (as' bs : List Lane) (row row' : List ℕ) (cells cells' : List ℤ) → ((c : ℕ) → Carries old new more shift t k c) → AllFrom (λ _ lane. length lane.noise ≡ t) class as' → Paired (LaneLinked old) class as' bs → Paired (λ c x y. pos y ≡ pos x +ℤ more c) class row row' → Paired (λ c x y. y ≡ x -ℤ shift c) class cells cells' → Paired (LaneLinked new) class (all_advanced k as' row cells) (all_advanced k bs row' cells')
   lanes_step class [] [] row row' cells cells' f h l r q = tt
   lanes_step class (a ∷ as') [] row row' cells cells' f h l r q = absurd l
   lanes_step class [] (b ∷ bs) row row' cells cells' f h l r q = absurd l
@@ -133,7 +133,7 @@ module _ (old new : Option Change) (more shift : ℕ → ℤ) (t k : ℕ) (short
       let xs = releases-same (suc class) as' bs f hs ls in cc
 
 -- published alike
-pub publish-linked : (change : Option Change) (class : ℕ) (as' bs : List Lane) (zs : List ℤ) → Paired (LaneLinked change) class as' bs → Paired (LaneLinked change) class (publish_all as' zs) (publish_all bs zs)
+pub publish-linked : (change : Option Change) (class : ℕ) (as' bs : List Lane) (zs : List ℤ) → Paired (LaneLinked change) class as' bs → Paired (LaneLinked change) class (all_published as' zs) (all_published bs zs)
 publish-linked change class [] [] zs l = tt
 publish-linked change class (a ∷ as') [] zs l = absurd l
 publish-linked change class [] (b ∷ bs) zs l = absurd l

@@ -9,7 +9,7 @@ use Rattle.plan.specs.Covers.{cover-suc, cover-zero}
 use Rattle.plan.specs.Parts.{depth-grows}
 use Rattle.finisher.specs.Finishers.{Says, after}
 use Rattle.finisher.specs.Finishers as finisher
-use Rattle.runs.specs.Model.{Setting, Station, Lane, Phase, idle, running, is_open, units_of, Call, opens, steps, closes, reads, balances, Answer, stepped, closed, published, refusal, answer_by, station_by, answer, next, noise_after, advance, advance_all, advanced, release, answers_to, publish_all, empty_lane, lane_at, after_open, after_row, after_close}
+use Rattle.runs.specs.Model.{Setting, Station, Lane, Phase, idle, running, is_open, units_of, Call, opens, steps, closes, reads, balances, Answer, stepped, closed, published, refusal, answer_by, station_by, answer, next, noise_after, advance, all_advanced, advanced, release, answers_to, all_published, empty_lane, lane_at, after_open, after_row, after_close}
 use Rattle.runs.specs.Runs.{answers, station_after, rows_taken, epoch_after, epoch_rows, true_count}
 use Rattle.runs.specs.Law.{Making, LawfulMaking, make, cell_at, cover_noise, release_of, row_finishes, finishes_for, finisher_calls, Published, SpendsDepth}
 use Rattle.runs.proofs.Facts.{le-or-gt, Steps, step-facts, open-facts, close_facts}
@@ -45,7 +45,7 @@ cells-from S class (c ∷ cells) f = (
   cells-from S (suc class) cells (λ i h. subst (λ (k : ℕ). S k (get_or cells i (pos 0))) (omega arith) (f (suc i) (omega arith))),
 )
 
-advance-cells : (P Q : ℕ → Lane → Type 0) (S : ℕ → ℤ → Type 0) (back : ℕ) → ((class : ℕ) (lane : Lane) (x : ℕ) (cell : ℤ) → P class lane → S class cell → Q class (advance back lane x cell)) → (class : ℕ) (lanes : List Lane) (row : List ℕ) (cells : List ℤ) → AllFrom P class lanes → AllCells S class cells → AllFrom Q class (advance_all back lanes row cells)
+advance-cells : (P Q : ℕ → Lane → Type 0) (S : ℕ → ℤ → Type 0) (back : ℕ) → ((class : ℕ) (lane : Lane) (x : ℕ) (cell : ℤ) → P class lane → S class cell → Q class (advance back lane x cell)) → (class : ℕ) (lanes : List Lane) (row : List ℕ) (cells : List ℤ) → AllFrom P class lanes → AllCells S class cells → AllFrom Q class (all_advanced back lanes row cells)
 advance-cells P Q S back f class [] row cells h s = tt
 advance-cells P Q S back f class (lane ∷ lanes) [] cells h s = tt
 advance-cells P Q S back f class (lane ∷ lanes) (x ∷ row) [] h s = tt
@@ -89,7 +89,7 @@ answer_at says k (z ∷ zs) zero h = ap (λ (n : ℕ). says [] n z) (omega arith
 answer_at says k (z ∷ zs) (suc c) h =
     answer_at (after (finisher.finishes k z) says) (suc k) zs c (omega arith) ∙ ap (λ (n : ℕ). says (finisher.finishes k z ∷ take c (finishes_of (suc k) zs)) n (get_or zs c (pos 0))) (omega arith)
 
-published-at : (lanes : List Lane) (zs : List ℤ) (c : ℕ) → length zs ≡ length lanes → c < length lanes → (get_or (publish_all lanes zs) c empty_lane).published ≡ get_or zs c (pos 0)
+published-at : (lanes : List Lane) (zs : List ℤ) (c : ℕ) → length zs ≡ length lanes → c < length lanes → (get_or (all_published lanes zs) c empty_lane).published ≡ get_or zs c (pos 0)
 published-at [] zs c n h = absurd (omega arith)
 published-at (lane ∷ lanes) [] c n h = absurd (omega arith)
 published-at (lane ∷ lanes) (z ∷ zs) zero n h = refl

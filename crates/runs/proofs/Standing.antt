@@ -5,7 +5,7 @@ use Rattle.std.proofs.ByRecursion.{All-append}
 use Rattle.std.proofs.lemmas.List.{append-nil, append_assoc, length-map, length_push}
 use Rattle.std.proofs.lemmas.Int.{ints}
 use Rattle.finisher.specs.Finishers.{Call, begins, finishes, after, Says, Stands, Keeps, Lawful, LawfulCall, Within, class_limit, count_limit}
-use Rattle.runs.specs.Model.{Lane, noise_after, advance, release, answers_to, says_after, publish_all, empty_lane}
+use Rattle.runs.specs.Model.{Lane, noise_after, advance, release, answers_to, says_after, all_published, empty_lane}
 use Rattle.runs.proofs.Lanes.{AllFrom, publish}
 use Rattle.runs.proofs.Noise.{noise-old}
 
@@ -60,7 +60,7 @@ module _ (says : Says) (stands : Stands) (keeps : Keeps says stands) where
     ready-later class (suc from) z l lawful f (omega arith) lanes rs,
   )
 
-  pub stand-all : (class : ℕ) (lanes : List Lane) (l : List Call) (now : Says) → ((m : List Call) → now m ≡ says (l ++ m)) → Lawful l → class + length lanes ≤ class_limit → AllByRecursion (SFits w64) (map release lanes) → AllFrom (λ _ lane. lane.count ≤ count_limit) class lanes → AllFrom (Ready l) class lanes → AllFrom (Stand (l ++ finishes_of class (map release lanes))) class (publish_all lanes (answers_to now class (map release lanes)))
+  pub stand-all : (class : ℕ) (lanes : List Lane) (l : List Call) (now : Says) → ((m : List Call) → now m ≡ says (l ++ m)) → Lawful l → class + length lanes ≤ class_limit → AllByRecursion (SFits w64) (map release lanes) → AllFrom (λ _ lane. lane.count ≤ count_limit) class lanes → AllFrom (Ready l) class lanes → AllFrom (Stand (l ++ finishes_of class (map release lanes))) class (all_published lanes (answers_to now class (map release lanes)))
   stand-all class [] l now same lawful h f k r = tt
   stand-all class (lane ∷ lanes) l now same lawful h (f, fs) (k, ks) (r, rs) =
       let z = release lane in
@@ -79,7 +79,7 @@ module _ (says : Says) (stands : Stands) (keeps : Keeps says stands) where
         subst (λ (k : List Call). stands k class e lane.count) (append_assoc l (finishes class z ∷ []) (finishes_of (suc class) (map release lanes))) stood,
         subst (λ (y : ℤ). Within e y lane.count) said n.0,
       ) in
-      (head, subst (λ (k : List Call). AllFrom (Stand k) (suc class) (publish_all lanes (answers_to (after (finishes class z) now) (suc class) (map release lanes)))) (append_assoc l (finishes class z ∷ []) (finishes_of (suc class) (map release lanes))) rest)
+      (head, subst (λ (k : List Call). AllFrom (Stand k) (suc class) (all_published lanes (answers_to (after (finishes class z) now) (suc class) (map release lanes)))) (append_assoc l (finishes class z ∷ []) (finishes_of (suc class) (map release lanes))) rest)
 
 -- what the finisher says after a row
 pub says-after : (says : Says) (class : ℕ) (zs : List ℤ) (m : List Call) → says_after says class zs m ≡ says (finishes_of class zs ++ m)

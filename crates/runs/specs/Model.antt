@@ -117,11 +117,11 @@ advance back lane count cell =
       published = lane.published;
     }
 
-abbrev pub advance_all : ℕ → List Lane → List ℕ → List ℤ → List Lane
-advance_all back (lane ∷ lanes) (count ∷ row) (cell ∷ cells) = advance back lane count cell ∷ advance_all back lanes row cells
-advance_all back (lane ∷ lanes) (count ∷ row) [] = []
-advance_all back (lane ∷ lanes) [] cells = []
-advance_all back [] row cells = []
+abbrev pub all_advanced : ℕ → List Lane → List ℕ → List ℤ → List Lane
+all_advanced back (lane ∷ lanes) (count ∷ row) (cell ∷ cells) = advance back lane count cell ∷ all_advanced back lanes row cells
+all_advanced back (lane ∷ lanes) (count ∷ row) [] = []
+all_advanced back (lane ∷ lanes) [] cells = []
+all_advanced back [] row cells = []
 
 -- the true count and its newest noise
 abbrev pub release : Lane → ℤ
@@ -136,14 +136,14 @@ abbrev pub says_after : Says → ℕ → List ℤ → Says
 says_after says class [] = says
 says_after says class (z ∷ releases) = says_after (after (finishes class z) says) (suc class) releases
 
-abbrev pub publish_all : List Lane → List ℤ → List Lane
-publish_all (lane ∷ lanes) (z ∷ answers) = record { count = lane.count; noise = lane.noise; published = z } ∷ publish_all lanes answers
-publish_all (lane ∷ lanes) [] = []
-publish_all [] answers = []
+abbrev pub all_published : List Lane → List ℤ → List Lane
+all_published (lane ∷ lanes) (z ∷ answers) = record { count = lane.count; noise = lane.noise; published = z } ∷ all_published lanes answers
+all_published (lane ∷ lanes) [] = []
+all_published [] answers = []
 
 -- the classes after a row, before and after they are published
 abbrev pub advanced : Station → List ℕ → List Lane
-advanced s row = advance_all (back_asked s.back (suc s.steps)) s.lanes row (take s.setting.classes s.cells)
+advanced s row = all_advanced (back_asked s.back (suc s.steps)) s.lanes row (take s.setting.classes s.cells)
 
 abbrev pub after_row : Station → List ℕ → Station
 after_row s row =
@@ -156,7 +156,7 @@ after_row s row =
       held = s.held;
       serial = s.serial;
       steps = suc s.steps;
-      lanes = publish_all (advanced s row) (answers_to s.says 0 (map release (advanced s row)));
+      lanes = all_published (advanced s row) (answers_to s.says 0 (map release (advanced s row)));
       phase = s.phase;
     }
 

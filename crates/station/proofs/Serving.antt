@@ -1,13 +1,12 @@
 -- A row's counts looked at, its cells drawn and its releases finished, class after class.
-use Rattle.std.proofs.Common.{◌≡◌, ℕ, suc, ◌+◌, ◌<◌, ◌≤◌, Bool, true, false, cond, ltb, List, [], ◌∷◌, ◌++◌, map, length, get_or, drop, ℤ, pos, sym, refl, ap, ◌∙◌, add-zero, arith}
-use Rattle.std.proofs.lemmas.List.{drop_all, drop_more, length-map, map_push}
+use Rattle.std.proofs.Common.{◌≡◌, ℕ, suc, ◌+◌, ◌<◌, ◌≤◌, Bool, true, false, cond, ltb, List, [], ◌∷◌, ◌++◌, length, get_or, take, drop, set, ℤ, pos, sym, refl, ap, ◌∙◌, add-zero, arith}
+use Rattle.std.proofs.lemmas.List.{drop_all, drop_more, length-take-le, take_more, take_more_set}
 use Rattle.std.proofs.lemmas.Bool.{le-ltb, lt-ltb, ltb-false}
+use Rattle.std.specs.Result.{result_unwrap_or}
 use Rattle.std.specs.List.{AllByRecursion}
-use Rattle.finisher.specs.Finishers.{Says, after, finishes}
-use Rattle.runs.specs.Model as model
-use Rattle.runs.specs.Model.{first_above, answers_to, publish_all, release, says_after}
-use Rattle.tape.specs.Tapes.{undrawn}
-use Rattle.station.specs.Lanes.{published_by, served_by}
+use Rattle.finisher.specs.Finishers.{Says, after, finished, finishes}
+use Rattle.runs.specs.Model.{first_above, answers_to, says_after}
+use Rattle.tape.specs.Tapes.{drawn, undrawn}
 
 -- The counts of a row
 
@@ -42,11 +41,18 @@ all_small (n ∷ row) h = go (ltb 1000 n) refl h (all_small row)
 
 -- Cells
 
-pub first-at : (cells : List ℤ) (i : ℕ) → i < length cells → get_or (drop i cells) 0 (pos 0) ≡ get_or cells i (pos 0)
-first-at cells i h = ap (λ (x : List ℤ). get_or x 0 (pos 0)) (drop_more cells i (pos 0) h)
+pub drawn-at : (cells : List ℤ) (i : ℕ) → i < length cells → result_unwrap_or (drawn (drop i cells)) (pos 0) ≡ get_or cells i (pos 0)
+drawn-at cells i h = ap (λ (x : List ℤ). result_unwrap_or (drawn x) (pos 0)) (drop_more cells i (pos 0) h)
 
 pub undrawn-at : (cells : List ℤ) (i : ℕ) → i < length cells → undrawn (drop i cells) ≡ drop (i + 1) cells
 undrawn-at cells i h = ap undrawn (drop_more cells i (pos 0) h)
+
+pub draw-more : (got cells : List ℤ) (i : ℕ) (cell : ℤ) → i < length got → i < length cells → take i got ≡ take i cells → cell ≡ get_or cells i (pos 0)
+    → take (i + 1) (set got i cell) ≡ take (i + 1) cells
+draw-more got cells i cell a b front here =
+    let made : take (i + 1) (set got i cell) ≡ take i got ++ cell ∷ [] = take_more_set got i cell a in
+    let more : take (i + 1) cells ≡ take i cells ++ get_or cells i (pos 0) ∷ [] = take_more cells i (pos 0) b in
+    cc
 
 -- Releases
 
@@ -62,41 +68,26 @@ answers_push says class (y ∷ zs) z =
     ap (λ (more : List ℤ). says [] class y ∷ more) (answers_push (after (finishes class y) says) (suc class) zs z)
     ∙ ap (λ (n : ℕ). says [] class y ∷ (answers_to (after (finishes class y) says) (suc class) zs ++ says_after (after (finishes class y) says) (suc class) zs [] n z ∷ [])) (omega arith)
 
--- one class more
-pub says-more : (says : Says) (lanes : List model.Lane) (lane : model.Lane) (i : ℕ) → length lanes ≡ i
-    → says_after says 0 (map release (lanes ++ lane ∷ [])) ≡ after (finishes i (release lane)) (says_after says 0 (map release lanes))
-says-more says lanes lane i long =
-    let same : length (map release lanes) ≡ length lanes = length-map lanes release in
-    let place : 0 + length (map release lanes) ≡ i = omega arith in
-    ap (says_after says 0) (map_push release lanes lane)
-    ∙ says-push says 0 (map release lanes) (release lane)
-    ∙ ap (λ (n : ℕ). after (finishes n (release lane)) (says_after says 0 (map release lanes))) place
+-- one release more
+pub says-more : (says : Says) (zs : List ℤ) (i : ℕ) → i < length zs
+    → says_after says 0 (take (i + 1) zs) ≡ after (finishes i (get_or zs i (pos 0))) (says_after says 0 (take i zs))
+says-more says zs i h =
+    let long : length (take i zs) ≡ i = length-take-le i zs (omega arith) in
+    ap (says_after says 0) (take_more zs i (pos 0) h)
+    ∙ says-push says 0 (take i zs) (get_or zs i (pos 0))
+    ∙ ap (λ (n : ℕ). after (finishes n (get_or zs i (pos 0))) (says_after says 0 (take i zs))) (omega arith)
 
-answers-more : (says : Says) (lanes : List model.Lane) (lane : model.Lane) (i : ℕ) → length lanes ≡ i
-    → answers_to says 0 (map release (lanes ++ lane ∷ [])) ≡ answers_to says 0 (map release lanes) ++ says_after says 0 (map release lanes) [] i (release lane) ∷ []
-answers-more says lanes lane i long =
-    let same : length (map release lanes) ≡ length lanes = length-map lanes release in
-    let place : 0 + length (map release lanes) ≡ i = omega arith in
-    ap (answers_to says 0) (map_push release lanes lane)
-    ∙ answers_push says 0 (map release lanes) (release lane)
-    ∙ ap (λ (n : ℕ). answers_to says 0 (map release lanes) ++ says_after says 0 (map release lanes) [] n (release lane) ∷ []) place
+pub answers-more : (says : Says) (counts zs : List ℤ) (i : ℕ) (count : ℤ) → i < length counts → i < length zs
+    → take i counts ≡ answers_to says 0 (take i zs) → count ≡ says_after says 0 (take i zs) [] i (get_or zs i (pos 0))
+    → take (i + 1) (set counts i count) ≡ answers_to says 0 (take (i + 1) zs)
+answers-more says counts zs i count a b front here =
+    let long : length (take i zs) ≡ i = length-take-le i zs (omega arith) in
+    let made : take (i + 1) (set counts i count) ≡ take i counts ++ count ∷ [] = take_more_set counts i count a in
+    let push : answers_to says 0 (take i zs ++ get_or zs i (pos 0) ∷ []) ≡ answers_to says 0 (take i zs) ++ says_after says 0 (take i zs) [] (0 + length (take i zs)) (get_or zs i (pos 0)) ∷ [] = answers_push says 0 (take i zs) (get_or zs i (pos 0)) in
+    let place : 0 + length (take i zs) ≡ i = omega arith in
+    let more : answers_to says 0 (take (i + 1) zs) ≡ answers_to says 0 (take i zs) ++ says_after says 0 (take i zs) [] i (get_or zs i (pos 0)) ∷ [] =
+    ap (answers_to says 0) (take_more zs i (pos 0) b) ∙ push ∙ ap (λ (n : ℕ). answers_to says 0 (take i zs) ++ says_after says 0 (take i zs) [] n (get_or zs i (pos 0)) ∷ []) place in
+    rw (made, more) cc
 
-answers-long : (says : Says) (class : ℕ) (zs : List ℤ) → length (answers_to says class zs) ≡ length zs
-answers-long says class [] = refl
-answers-long says class (z ∷ zs) = ap suc (answers-long (after (finishes class z) says) (suc class) zs)
-
-publish-push : (lanes : List model.Lane) (counts : List ℤ) (lane : model.Lane) (z : ℤ) → length lanes ≡ length counts
-    → publish_all (lanes ++ lane ∷ []) (counts ++ z ∷ []) ≡ publish_all lanes counts ++ record { count = lane.count; noise = lane.noise; published = z } ∷ []
-publish-push [] [] lane z p = refl
-publish-push [] (n ∷ counts) lane z p = absurd (omega arith)
-publish-push (x ∷ lanes) [] lane z p = absurd (omega arith)
-publish-push (x ∷ lanes) (n ∷ counts) lane z p =
-    ap (λ (more : List model.Lane). record { count = x.count; noise = x.noise; published = n } ∷ more) (publish-push lanes counts lane z (omega arith))
-
-pub published-more : (says : Says) (lanes : List model.Lane) (lane : model.Lane) (i : ℕ) → length lanes ≡ i
-    → published_by says (lanes ++ lane ∷ []) ≡ published_by says lanes ++ served_by (says_after says 0 (map release lanes)) i lane ∷ []
-published-more says lanes lane i long =
-    let same : length (map release lanes) ≡ length lanes = length-map lanes release in
-    let answers : length (answers_to says 0 (map release lanes)) ≡ length (map release lanes) = answers-long says 0 (map release lanes) in
-    ap (publish_all (lanes ++ lane ∷ [])) (answers-more says lanes lane i long)
-    ∙ publish-push lanes (answers_to says 0 (map release lanes)) lane (says_after says 0 (map release lanes) [] i (release lane)) (omega arith)
+pub finished-at : (says : Says) (class : ℕ) (z : ℤ) → class < 8 → result_unwrap_or (finished says class z) (pos 0) ≡ says [] class z
+finished-at says class z h = rw (lt-ltb class 8 h)

@@ -1,7 +1,6 @@
 -- The classes of a station, as the model has them, and the limits that their numbers keep.
-use Rattle.std.specs.Prelude.{ℕ, suc, ◌*◌, ◌<◌, ◌≤◌, List, [], map, take, ℤ, pos, slice_index_or}
+use Rattle.std.specs.Prelude.{ℕ, suc, ◌*◌, ◌<◌, ◌≤◌, List, [], map, take, pos, slice_index_or}
 use Rattle.std.specs.Int.Signed.{mag}
-use Rattle.finisher.specs.Finishers.{Says}
 use Rattle.runs.specs.Model as model
 use Rattle.station.specs.declared.table.Lane.{Lane}
 
@@ -12,18 +11,6 @@ lane_of steps lane = record { count = lane.count; noise = take steps lane.noise;
 -- the first classes
 abbrev pub lanes_of : ℕ → ℕ → List Lane → List model.Lane
 lanes_of classes steps lanes = map (lane_of steps) (take classes lanes)
-
--- the next cell of a tape, or 0 where there is none
-abbrev pub first_of : List ℤ → ℤ
-first_of cells = slice_index_or cells 0 (pos 0)
-
--- a class with what a finisher makes of its release, as its published count
-abbrev pub served_by : Says → ℕ → model.Lane → model.Lane
-served_by says class lane = record { count = lane.count; noise = lane.noise; published = says [] class (model.release lane) }
-
--- all classes, class 0 first
-abbrev pub published_by : Says → List model.Lane → List model.Lane
-published_by says lanes = model.publish_all lanes (model.answers_to says 0 (map model.release lanes))
 
 -- what the noise of step k + 1 stays below, with or without its sign
 abbrev pub noise_limit : ℕ → ℕ

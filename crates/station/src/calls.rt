@@ -9,7 +9,7 @@ ghost use Rattle.station.specs.Answers.{opened_as, stepped_as, closed_as, Handed
 ghost use Rattle.station.specs.View.{lawful_of, making_of, view_of};
 
 use crate::hold::Hold;
-use crate::row::first_over;
+use crate::row::{draw_row, finish_row, first_over};
 use crate::table::Table;
 use crate::{Balance, Closed, Lawful, Phase, Station};
 use fault::{Cause, Fault, Layer};
@@ -63,7 +63,7 @@ impl<P: Plan, T: Tape, F: Finisher> Station<P, T, F> {
         self.account.hold(units)?;
         self.finisher.begin();
         self.serial += 1;
-        self.table.clear();
+        self.table = Table::new(self.table.classes());
         self.phase = Phase::Running { horizon, units };
         Ok(Hold::new(self.number, self.serial))
     }
@@ -116,8 +116,12 @@ impl<P: Plan, T: Tape, F: Finisher> Station<P, T, F> {
         ensures { view_of P.back T.cells F.says self.new ≡ after_row (view_of P.back T.cells F.says self.old) row.now }
     {
         let back = self.plan.back_step(self.table.steps() + 1) as usize;
-        self.table
-            .serve(back, row, &mut self.tape, &mut self.finisher);
+        let classes = self.table.classes();
+        let cells = draw_row(&mut self.tape, classes);
+        self.table.advance(back, row, &cells);
+        let releases = self.table.releases();
+        let counts = finish_row(&mut self.finisher, classes, &releases);
+        self.table.publish(&counts);
     }
 
     /// Whether an epoch of `horizon` steps can be opened, but for its units.
