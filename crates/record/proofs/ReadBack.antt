@@ -1,14 +1,14 @@
 -- What is written reads back.
-use Rattle.std.proofs.Common.{◌≡◌, ℕ, ◌+◌, ◌-◌, ◌*◌, ◌/◌, ◌%◌, ◌^◌, ◌<◌, ◌≤◌, true, false, ◌&&◌, leb, List, [], ◌∷◌, ◌++◌, map, length, take, drop, ℤ, pos, negsuc, sym, refl, ap, ◌∙◌, subst, mul-div_cancel, arith, lit<, w64, SFits, to_z, of_z}
+use Rattle.std.proofs.Common.{◌≡◌, ℕ, ◌-◌, ◌*◌, ◌/◌, ◌%◌, ◌^◌, ◌<◌, ◌≤◌, true, ◌&&◌, leb, List, [], ◌∷◌, ◌++◌, map, length, ℤ, pos, negsuc, sym, refl, ap, ◌∙◌, subst, mul-div_cancel, arith, lit<, w64, SFits, to_z, of_z}
 use native.Mathlib.Nat.{mul-mod_left}
 use Rattle.std.specs.List.{AllByRecursion}
 use Rattle.std.proofs.lemmas.List.{length-map, take_at, drop_at, append-nil, length-append}
 use Rattle.std.proofs.lemmas.Int.{to_z-of_z}
 use Rattle.std.proofs.lemmas.Bool.Decides.{nat_tests}
-use Rattle.record.specs.Little.{value, little, field, numbers, spread}
+use Rattle.record.specs.Little.{little, field, numbers, spread}
 use Rattle.record.specs.Kinds.{Entry, set_up, opening, stepping, closing, opened, published, closed, refused, ended, kind_of, body_of, bytes_of, row_in, tally_in}
-use Rattle.record.specs.Reads.{Answer, found, decode, suited, has_few_counts, answer_to, rest_after, announced}
-use Rattle.record.specs.Writes.{number_of_counts, ReadsBack}
+use Rattle.record.specs.Reads.{found, decode, has_few_counts, answer_to, rest_after}
+use Rattle.record.specs.Writes.{ReadsBack}
 use Rattle.record.proofs.Whole.{answer-whole, rest-whole}
 use Rattle.record.proofs.Digits.{value-little, length-spread, numbers-spread}
 

@@ -1,5 +1,5 @@
 -- A record that the writer accepts.
-use Rattle.std.proofs.Common.{◌≡◌, ℕ, ◌+◌, ◌≤◌, true, ◌&&◌, leb, List, ◌++◌, length, take, drop, Ok, sym, refl, ap, ◌∙◌, zero-add, arith, le-leb}
+use Rattle.std.proofs.Common.{◌≡◌, ℕ, ◌+◌, ◌≤◌, true, ◌&&◌, leb, List, length, take, drop, Ok, refl, zero-add, le-leb}
 use Rattle.std.proofs.lemmas.List.{take_at}
 use Rattle.record.specs.Kinds.{Entry, bytes_of}
 use Rattle.record.specs.Writes.{number_of_counts, write_of, output_after, put}

@@ -1,8 +1,7 @@
 use Rattle.std.proofs.Common.{◌≡◌, ℕ, ◌≤◌, List, length, take, Ok, sym, ap, ◌∙◌, subst, arith}
-use Rattle.fault.specs.Told.{Told}
 use Rattle.record.specs.Kinds.{bytes_of}
 use Rattle.record.specs.Seen.{entry_of}
-use Rattle.record.specs.Writes.{number_of_counts, put, ReadsBack}
+use Rattle.record.specs.Writes.{number_of_counts, ReadsBack}
 use Rattle.record.proofs.Written.{write-accepts, output-accepted, front-accepted}
 use Rattle.record.proofs.kinds.Record.write.Goals as goal
 
