@@ -26,7 +26,7 @@ OWN = {
     'publishAll': 'all_published',
     'replyTo': 'reply_of',
     'handedBack': 'HandedBack',
-    'borrowsOf': 'Borrows',
+    'borrowsOf': 'RecordBorrows',
 }
 # one name with two meanings: the fact of the law, beside the reader's answer
 OWN_IN = {('runs', 'answerTo'): 'AnswerTo'}

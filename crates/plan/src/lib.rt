@@ -11,7 +11,7 @@ ghost use Rattle.plan.specs.Choice.{back_of, choice, default_plan};
 ghost use Rattle.plan.specs.Laws.{CoverLaws};
 ghost use Rattle.plan.specs.Formulas.{Formulas};
 ghost use Rattle.plan.specs.Examples.{Examples};
-ghost use Rattle.std.proofs.Common.{rules};
+ghost use Rattle.plan.specs.Singles.{single-falls};
 ghost use Rattle.plan.specs.Dyadics.{dyadic-falls};
 ghost use Rattle.plan.specs.ChosenFalls.{chosen-falls};
 
@@ -50,7 +50,7 @@ pub struct Single;
 impl Plan for Single {
     ghost back = { λ _. single };
 
-    ghost falls = { Prim.search rules };
+    ghost falls = { λ plan. single-falls horizon };
 
     fn back_step(&self, t: u16) -> u16 {
         if t > 0 && t <= HORIZON { t - 1 } else { 0 }

@@ -11,15 +11,10 @@ loop-drawn-preserved g c =
     let left = g.T.Tape.cells c.loop-drawn.tape in
     let k = c.args.count - (c.loop-drawn._drawn + 1) in
     let fewer : c.args.count - c.loop-drawn._drawn ≡ suc (c.args.count - (c.loop-drawn._drawn + 1)) = omega arith in
-    let size : c.unsigned_abs.result ≡ nat_abs (result_unwrap_or (drawn (g.T.Tape.cells c.loop-drawn.tape)) (pos 0)) =
-    c.unsigned_abs.ensures.value
-    ∙ ap nat_abs (to_z-of_z w32 c.unwrap_or-cell.result (record { sfits = c.unwrap_or-cell.type_inv }))
-    ∙ ap nat_abs c.unwrap_or-cell.ensures
-    ∙ ap (λ (r : Result ℤ Fault). nat_abs (result_unwrap_or r (pos 0))) c.draw.ensures.answer in
-    rw (c.max-self.ensures, size, c.draw.ensures.moved) (
-      draw-size c.loop-drawn.self.largest k _ left fewer ∙ c.loop-drawn.invariant.0,
-      draw-rest k _ left fewer ∙ c.loop-drawn.invariant.1,
-    )
+    let fits = to_z-of_z w32 c.unwrap_or-cell.result (record { sfits = c.unwrap_or-cell.type_inv }) in
+    let size = draw-size c.loop-drawn.self.largest k _ left fewer ∙ c.loop-drawn.invariant.0 in
+    let rest = draw-rest k _ left fewer ∙ c.loop-drawn.invariant.1 in
+    (cc, cc)
 
 pub returns : goal.returns
 returns g c =
