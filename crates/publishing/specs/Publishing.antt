@@ -1,5 +1,6 @@
--- A publication: which records a sequence of event bytes gives, with a tape and so many bytes of room. An output with less
--- room than an event record asks for is refused as a whole; what is defined here is of an output with at least that much.
+-- A publication, as it was defined first; `publish` answers by `Whole.antt` beside it. Which records a sequence of event
+-- bytes gives, with a tape and so many bytes of room. An output with less room than an event record asks for is refused as
+-- a whole; what is defined here is of an output with at least that much.
 use Rattle.std.specs.Prelude.{ℕ, zero, suc, ◌-◌, Bool, cond, not, ◌&&◌, List, [], ◌∷◌, ◌++◌, map, length, ℤ, Some, None, Option, ◌==◌, nat_le, nat_lt}
 use Rattle.fault.specs.Told.{Told}
 use Rattle.record.specs.Kinds.{Entry, set_up, opening, stepping, closing, opened, published, closed, refused, ended, bytes_of}

@@ -36,7 +36,7 @@ pub fn publish(events: &[u8], tape: &[u8], out: &mut [u8]) -> Result<usize, Faul
     Ok(end_publication(work, out))
 }
 
-/// Asks the prover for the worked publication.
+/// Asks the prover for the worked publication, by the definition that stood first.
 pub fn worked_publication_stands()
     ensures { WorkedPublication }
 {}
