@@ -27,10 +27,7 @@ impl Account {
         ensures lawful { is_ok result ≡ nat_le grant grant_limit }
     {
         if grant > GRANT_LIMIT {
-            Err(Fault {
-                cause: Cause::OutOfRange(grant),
-                layer: Layer::Account,
-            })
+            Err(Cause::OutOfRange(grant).by(Layer::Account))
         } else {
             Ok(Account {
                 grant,
@@ -76,10 +73,7 @@ impl Account {
         ensures refused { is_ok result ≡ false → self.new ≡ self.old }
     {
         if units > self.free() {
-            return Err(Fault {
-                cause: Cause::OverBudget(units),
-                layer: Layer::Account,
-            });
+            return Err(Cause::OverBudget(units).by(Layer::Account));
         }
         self.held += units;
         Ok(())

@@ -11,7 +11,7 @@ use plan::Plan;
 use tape::Tape;
 
 /// The size of the largest cell that an epoch has drawn.
-#[derive(Clone, Copy, Debug)]
+#[derive(Clone, Copy, Debug, PartialEq, Eq)]
 pub struct Bound {
     largest: u32,
 }
@@ -28,8 +28,7 @@ impl Bound {
     pub fn largest(&self) -> u32
         ensures { result ≡ self.now.largest }
     {
-        let Bound { largest } = *self;
-        largest
+        self.largest
     }
 
     /// Draws so many cells, or as many as are left. Where the bound covered the cells before, it covers these too.
@@ -38,8 +37,10 @@ impl Bound {
         ensures tape { T.cells tape.new ≡ drop count (T.cells tape.old) }
         ensures covers { (before : List ℤ) → AllWithin self.old.largest before → AllWithin self.new.largest (before ++ take count (T.cells tape.old)) }
     {
-        for _drawn in 0..count {
-            let cell = tape.draw().unwrap_or(0);
+        for _ in 0..count {
+            let Ok(cell) = tape.draw() else {
+                break;
+            };
             self.largest = self.largest.max(cell.unsigned_abs());
         }
     }

@@ -1,21 +1,16 @@
 //! A watch over a station: it takes the events, and tells what came of each.
 
-ghost use Rattle.std.specs.Prelude.{◌≡◌};
-
 use bounds::Bound;
 use fault::{Cause, Fault, Layer};
-use finisher::{Plain, Rising};
+use finisher::{CLASSES, Plain, Rising};
 use plan::{Chosen, Plan};
 use record::{Reading, Record, Row};
 use station::{Balance, Closed, Hold, Setting, Station};
 use std::io;
 use tape::Tape;
 
-/// The most counts of a row.
-const CLASSES: usize = 8;
-
 /// How many events, steps and refusals there were.
-#[derive(Clone, Copy)]
+#[derive(Clone, Copy, Default)]
 struct Totals {
     events: u32,
     steps: u32,
@@ -38,7 +33,7 @@ impl<T: Tape + Drop> Watch<T> {
     /// The set-up is its first event.
     pub(crate) fn new(setting: Setting, plan: Chosen, tape: T, same: T) -> Result<Self, Fault> {
         let classes = setting.classes as usize;
-        let station = Station::new(setting.lawful()?, plan, tape, Rising::new(Plain));
+        let station = Station::new(setting.try_into()?, plan, tape, Rising::new(Plain));
         Ok(Watch {
             plan,
             classes,
@@ -48,8 +43,7 @@ impl<T: Tape + Drop> Watch<T> {
             bound: Bound::new(),
             totals: Totals {
                 events: 1,
-                steps: 0,
-                refusals: 0,
+                ..Totals::default()
             },
         })
     }
@@ -64,10 +58,8 @@ impl<T: Tape + Drop> Watch<T> {
             Reading::Found(Record::Step { row }) => self.step(rt, row),
             Reading::Found(Record::Close) => self.close(rt),
             Reading::Found(other) => {
-                self.refuse(
-                    rt,
-                    refusal(Layer::Record, Cause::KindNotAllowed(other.kind())),
-                )
+                let kind = other.kind().number();
+                self.refuse(rt, Cause::KindNotAllowed(kind).by(Layer::Record))
             }
             Reading::Faulty(fault) => self.refuse(rt, *fault),
             Reading::Nothing => println!(rt; "nothing"),
@@ -102,9 +94,7 @@ impl<T: Tape + Drop> Watch<T> {
     }
 
     fn step(&mut self, rt: &impl Print, row: &Row<'_>) -> io::Result<()> {
-        let size = row.len().min(CLASSES);
-        let counts = counts_of(row);
-        match self.station.step(&counts[0..size]) {
+        match self.station.step(&row.first::<CLASSES>()) {
             Err(fault) => self.refuse(rt, fault),
             Ok(number) => {
                 self.totals.steps = self.totals.steps.saturating_add(1);
@@ -132,7 +122,7 @@ impl<T: Tape + Drop> Watch<T> {
 
     fn close(&mut self, rt: &impl Print) -> io::Result<()> {
         let Some(hold) = self.hold.take() else {
-            return self.refuse(rt, refusal(Layer::Station, Cause::NoEpoch));
+            return self.refuse(rt, Cause::NoEpoch.by(Layer::Station));
         };
         match self.station.close(hold) {
             Ok(closed) => tell_closed(rt, closed, self.station.balance()),
@@ -168,15 +158,6 @@ impl<T: Tape + Drop> Watch<T> {
     }
 }
 
-/// The counts of a row, from class 0 on.
-fn counts_of(row: &Row<'_>) -> [u16; CLASSES] {
-    let mut counts = [0; CLASSES];
-    for class in 0..CLASSES {
-        counts[class] = row.get(class).unwrap_or(0);
-    }
-    counts
-}
-
 /// Closes the epoch that is open at the end.
 fn end_epoch<T: Tape>(
     rt: &impl Print,
@@ -207,10 +188,4 @@ fn tell_balance(rt: &impl Print, balance: Balance) -> io::Result<()> {
     let Balance { grant, spent, held } = balance;
     let free = grant.saturating_sub(spent).saturating_sub(held);
     println!(rt; "; grant {grant}, spent {spent}, held {held}, free {free}")
-}
-
-fn refusal(layer: Layer, cause: Cause) -> Fault
-    ensures { (result.cause ≡ cause) × (result.layer ≡ layer) }
-{
-    Fault { cause, layer }
 }

@@ -5,18 +5,19 @@
 ghost use Rattle.std.specs.Prelude.{◌≡◌};
 ghost use Rattle.fault.specs.Told.{number_of, layer_of, place_of};
 
+use std::error::Error;
 use std::fmt;
 
-/// The layer that refuses.
-#[derive(Clone, Copy, Debug)]
+/// The layer that refuses, by its number.
+#[derive(Clone, Copy, Debug, PartialEq, Eq)]
 pub enum Layer {
-    Record,
-    Station,
-    Account,
-    Plan,
-    Tape,
-    Finisher,
-    Publication,
+    Record = 1,
+    Station = 2,
+    Account = 3,
+    Plan = 4,
+    Tape = 5,
+    Finisher = 6,
+    Publication = 7,
 }
 
 impl Layer {
@@ -24,20 +25,12 @@ impl Layer {
     pub fn number(self) -> u16
         ensures { result ≡ layer_of self }
     {
-        match self {
-            Layer::Record => 1,
-            Layer::Station => 2,
-            Layer::Account => 3,
-            Layer::Plan => 4,
-            Layer::Tape => 5,
-            Layer::Finisher => 6,
-            Layer::Publication => 7,
-        }
+        self as u16
     }
 }
 
 /// Why a call was refused, with what the place is taken from.
-#[derive(Clone, Copy, Debug)]
+#[derive(Clone, Copy, Debug, PartialEq, Eq)]
 pub enum Cause {
     /// A number of a setting, or a plan's, that is out of range.
     OutOfRange(u32),
@@ -76,7 +69,15 @@ pub enum Cause {
 }
 
 impl Cause {
+    /// The refusal for this cause by a layer.
+    pub fn by(self, layer: Layer) -> Fault
+        ensures { result ≡ record { cause = self; layer = layer } }
+    {
+        Fault { cause: self, layer }
+    }
+
     /// The refusal's number.
+    // by match: `as` takes no enum whose variants hold data
     pub fn number(self) -> u16
         ensures { result ≡ number_of self }
     {
@@ -119,7 +120,7 @@ impl Cause {
 }
 
 /// A refusal: its cause and the layer that found it. It goes up unchanged, by `?`.
-#[derive(Clone, Copy, Debug)]
+#[derive(Clone, Copy, Debug, PartialEq, Eq)]
 pub struct Fault {
     pub cause: Cause,
     pub layer: Layer,
@@ -127,15 +128,15 @@ pub struct Fault {
 
 impl fmt::Display for Layer {
     fn fmt<W: fmt::Write>(&self, f: &mut fmt::Formatter<W>) -> fmt::Result {
-        match self {
-            Layer::Record => f.write_str("record"),
-            Layer::Station => f.write_str("station"),
-            Layer::Account => f.write_str("account"),
-            Layer::Plan => f.write_str("plan"),
-            Layer::Tape => f.write_str("tape"),
-            Layer::Finisher => f.write_str("finisher"),
-            Layer::Publication => f.write_str("publication"),
-        }
+        f.write_str(match self {
+            Layer::Record => "record",
+            Layer::Station => "station",
+            Layer::Account => "account",
+            Layer::Plan => "plan",
+            Layer::Tape => "tape",
+            Layer::Finisher => "finisher",
+            Layer::Publication => "publication",
+        })
     }
 }
 
@@ -175,3 +176,5 @@ impl fmt::Display for Fault {
         write!(f, "refusal {number}, {layer} layer, place {place}: {cause}")
     }
 }
+
+impl Error for Fault {}

@@ -53,10 +53,7 @@ impl Finisher for Plain {
         if class < CLASSES {
             Ok(release)
         } else {
-            Err(Fault {
-                cause: Cause::NoSuchClass(class),
-                layer: Layer::Finisher,
-            })
+            Err(Cause::NoSuchClass(class).by(Layer::Finisher))
         }
     }
 }

@@ -17,6 +17,7 @@ pub extern "C" fn boot_counter_publish(events: &[u8], tape: &[u8], out: &mut [u8
 {
     match publish(events, tape, out) {
         Ok(written) => written as u64,
+        // a plain number, since C has no Result
         Err(_) => 0,
     }
 }

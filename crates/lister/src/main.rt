@@ -9,12 +9,8 @@ use listing::list;
 const MOST: usize = 65_536;
 
 fn main(rt: HostRuntime) -> anyhow::Result<()> {
-    run(&rt)
-}
-
-fn run(rt: &HostRuntime) -> anyhow::Result<()> {
     let bytes = read_all(&mut rt.stdin(), rt.alloc(), MOST)?;
-    let summary = list(rt, &bytes)?;
+    let summary = list(&rt, &bytes)?;
     let records = summary.records;
     let faults = summary.faults;
     let taken = summary.bytes;

@@ -6,11 +6,12 @@ ghost use Rattle.std.specs.Prelude.{◌≡◌, ◌+◌, ◌^◌, ◌<◌, IfOk};
 ghost use Rattle.record.specs.Seen.{seen};
 ghost use Rattle.listing.specs.Totals.{counted, goes_on, plus, totals};
 
+use fault::Cause;
 use record::{Reading, read_record};
 use std::io;
 
 /// What a listing came to: records read, faults met, and the bytes that both take up.
-#[derive(Clone, Copy)]
+#[derive(Clone, Copy, Debug, Default, PartialEq, Eq)]
 pub struct Summary {
     pub records: usize,
     pub faults: usize,
@@ -36,7 +37,7 @@ impl Summary {
             Reading::Faulty(fault) => {
                 self.faults += 1;
                 self.bytes += size;
-                fault.cause.number() != 16
+                !matches!(fault.cause, Cause::CutShort(_))
             }
         }
     }
@@ -55,11 +56,7 @@ fn show(rt: &impl Print, at: usize, reading: &Reading<'_>) -> io::Result<()> {
 pub fn list(rt: &impl Print, bytes: &[u8]) -> io::Result<Summary>
     ensures { IfOk result (λ s. s ≡ totals bytes.now) }
 {
-    let mut summary = Summary {
-        records: 0,
-        faults: 0,
-        bytes: 0,
-    };
+    let mut summary = Summary::default();
     let mut rest = bytes;
     while !rest.is_empty() {
         let (reading, tail) = read_record(rest);

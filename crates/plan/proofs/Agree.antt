@@ -1,5 +1,5 @@
 -- Plans that agree up to n have the same covers, depth and breadth there.
-use Rattle.std.proofs.Common.{◌≡◌, ℕ, zero, suc, ◌<◌, ◌≤◌, cond, ltb, leb, List, ◌∷◌, length, refl, ap, ◌∙◌, le_trans, arith}
+use Rattle.std.proofs.Common.{◌≡◌, ℕ, zero, suc, ◌≤◌, cond, ltb, leb, length, refl, ap, le_trans, arith}
 use Rattle.plan.specs.Plans.{FallsTo, AgreeTo, holds, holding, cover_in, cover, depth, breadth}
 use Rattle.plan.specs.Sums.{greatest-same, total-same}
 
@@ -19,10 +19,7 @@ module _ (p q : ℕ → ℕ) (n : ℕ) (same : AgreeTo n p q) where
     unfolding cover_in
     cover_in-same zero t u = refl
     cover_in-same (suc m) zero u = refl
-    cover_in-same (suc m) (suc t) u =
-        let lt : p (suc t) < suc t = falls (suc t) (omega arith) u in
-        ap (λ (us : List ℕ). suc t ∷ us)
-        (cover_in-same m (p (suc t)) (omega arith) ∙ ap (cover_in q m) (same (suc t) (omega arith) u))
+    cover_in-same (suc m) (suc t) u = grind (arith, falls (suc t), cover_in-same m (p (suc t)), same (suc t))
 
     pub cover-same : (t : ℕ) → t ≤ n → cover p t ≡ cover q t
     unfolding cover

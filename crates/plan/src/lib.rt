@@ -4,7 +4,7 @@
 
 #![tactic(auto)]
 
-ghost use Rattle.std.specs.Prelude.{◌≡◌, ℕ, ◌≤◌, take};
+ghost use Rattle.std.specs.Prelude.{◌≡◌, ℕ, ◌≤◌, List, length};
 ghost use Rattle.plan.specs.Plans.{horizon, Falls, back_asked, depth_asked, breadth_asked, cover_asked};
 ghost use Rattle.plan.specs.Known.{single, dyadic};
 ghost use Rattle.plan.specs.Choice.{back_of, choice, default_plan};
@@ -15,12 +15,15 @@ ghost use Rattle.plan.specs.Singles.{single-falls};
 ghost use Rattle.plan.specs.Dyadics.{dyadic-falls};
 ghost use Rattle.plan.specs.ChosenFalls.{chosen-falls};
 
+use arrayvec::ArrayVec;
 use fault::{Cause, Fault, Layer};
+use std::marker::Model;
 
 /// The last step that a plan speaks of.
 pub const HORIZON: u16 = 1024;
 
-const MOST_PARTS: usize = HORIZON as usize;
+/// The most steps that an epoch has, and the most parts that a cover has.
+pub const MOST_STEPS: usize = HORIZON as usize;
 
 /// A plan: a back step for each step from 1 to the horizon. It means these back steps alone, and never changes.
 pub trait Plan {
@@ -44,7 +47,7 @@ pub trait Plan {
 }
 
 /// The plan in which each step goes back by one.
-#[derive(Clone, Copy, Debug)]
+#[derive(Clone, Copy, Debug, PartialEq, Eq)]
 pub struct Single;
 
 impl Plan for Single {
@@ -53,20 +56,29 @@ impl Plan for Single {
     ghost falls = { λ plan. single-falls horizon };
 
     fn back_step(&self, t: u16) -> u16 {
-        if t > 0 && t <= HORIZON { t - 1 } else { 0 }
+        match t {
+            1..=HORIZON => t - 1,
+            _ => 0,
+        }
     }
 
     fn depth(&self, k: u16) -> u16 {
-        if k > 0 && k <= HORIZON { 1 } else { 0 }
+        match k {
+            1..=HORIZON => 1,
+            _ => 0,
+        }
     }
 
     fn breadth(&self, k: u16) -> u16 {
-        if k <= HORIZON { k } else { 0 }
+        match k {
+            0..=HORIZON => k,
+            _ => 0,
+        }
     }
 }
 
 /// The plan in which each step goes back by the largest power of two that divides it.
-#[derive(Clone, Copy, Debug)]
+#[derive(Clone, Copy, Debug, PartialEq, Eq)]
 pub struct Dyadic;
 
 impl Plan for Dyadic {
@@ -75,53 +87,50 @@ impl Plan for Dyadic {
     ghost falls = { λ plan. dyadic-falls horizon };
 
     fn back_step(&self, t: u16) -> u16 {
-        if t > 0 && t <= HORIZON {
-            t & (t - 1)
-        } else {
-            0
+        match t {
+            1..=HORIZON => t & (t - 1),
+            _ => 0,
         }
     }
 
     fn depth(&self, k: u16) -> u16 {
-        if k > 0 && k <= HORIZON {
-            k.ilog2() as u16 + 1
-        } else {
-            0
+        match k {
+            1..=HORIZON => k.ilog2() as u16 + 1,
+            _ => 0,
         }
     }
 
     fn breadth(&self, k: u16) -> u16 {
-        if k <= HORIZON {
-            (k + 1).ilog2() as u16
-        } else {
-            0
+        match k {
+            0..=HORIZON => (k + 1).ilog2() as u16,
+            _ => 0,
         }
     }
 }
 
 /// A plan that a number names. Where none is named it is the dyadic one.
-#[derive(Clone, Copy, Debug)]
+#[derive(Clone, Copy, Debug, PartialEq, Eq)]
 pub enum Chosen {
     Single,
     Dyadic,
 }
 
-impl Chosen {
-    /// The plan of a number: 1 the single plan, 2 the dyadic one; any other number is refused.
-    pub fn by_number(number: u16) -> Result<Chosen, Fault>
-        ensures { result ≡ choice number }
-    {
+/// The plan of a number: 1 the single plan, 2 the dyadic one; any other number is refused.
+impl TryFrom<u16> for Chosen {
+    type Error = Fault;
+
+    ghost try_from_gives = { λ number result. result ≡ choice number };
+
+    fn try_from(number: u16) -> Result<Self, Fault> {
         match number {
             1 => Ok(Chosen::Single),
             2 => Ok(Chosen::Dyadic),
-            _ => Err(Fault {
-                cause: Cause::OutOfRange(number as u32),
-                layer: Layer::Plan,
-            }),
+            _ => Err(Cause::OutOfRange(number.into()).by(Layer::Plan)),
         }
     }
 }
 
+// by hand, so that the contract names the default plan
 impl Default for Chosen {
     ghost is_default = { λ plan. plan ≡ default_plan };
 
@@ -130,6 +139,7 @@ impl Default for Chosen {
     }
 }
 
+// A plan that is chosen while the program runs is an enum, so each question is a match: no boxed plan can be handed out.
 impl Plan for Chosen {
     ghost back = { back_of };
 
@@ -160,35 +170,40 @@ impl Plan for Chosen {
 /// The cover of a step: the steps whose parts form it, newest first.
 #[derive(Drop)]
 pub struct Cover {
-    steps: [u16; MOST_PARTS],
-    count: usize,
-    ghost fits: { count ≤ horizon },
+    steps: ArrayVec<u16, MOST_STEPS>,
+}
+
+impl Model for Cover {
+    ghost Value = { List ℕ };
+
+    ghost view = { λ cover. cover.steps.items };
+
+    ghost invariant = { λ cover. length cover.steps.items ≤ horizon };
 }
 
 impl Cover {
     /// The steps of the cover's parts, newest first.
     pub fn as_slice(&self) -> &[u16]
-        ensures { result.now ≡ take self.now.count self.now.steps }
+        ensures value { result.now ≡ self.now }
+        ensures fits { length result.now ≤ horizon }
     {
-        &self.steps[0..self.count]
+        self.steps.as_slice()
     }
 }
 
 /// The cover of step `t`: `t`, its back step, the back step of that, and so on down to 0; empty beyond the horizon.
 /// The laws of covers, depth and breadth hold of every plan.
 pub fn cover_of<P: Plan>(plan: &P, t: u16) -> Cover
-    ensures steps { take result.count result.steps ≡ cover_asked (P.back plan.now) t }
+    ensures steps { result ≡ cover_asked (P.back plan.now) t }
     ensures laws { CoverLaws (P.back plan.now) }
 {
-    let mut steps = [0; MOST_PARTS];
-    let mut count = 0;
+    let mut steps = ArrayVec::new();
     let mut at = if t <= HORIZON { t } else { 0 };
     while at > 0 {
-        steps[count] = at;
-        count += 1;
+        steps.push(at);
         at = plan.back_step(at);
     }
-    Cover { steps, count }
+    Cover { steps }
 }
 
 /// Asks the prover for the closed forms of the known plans.

@@ -7,24 +7,16 @@ ghost use Rattle.std.specs.Prelude.{◌≤◌, IfOk};
 ghost use Rattle.plan.specs.Plans.{horizon};
 
 use anyhow::anyhow;
-use fault::Fault;
-use input::read_all;
+use input::{MOST, read_all};
 use plan::{Chosen, Plan, cover_of};
 use sketch::{Step, course_of, horizon_by_number};
 use std::{env, io};
 use tape::{ByteTape, Tape};
 
-/// The most bytes that are read.
-const MOST: usize = 32_768;
-
 fn main(rt: HostRuntime) -> anyhow::Result<()> {
-    run(&rt)
-}
-
-fn run(rt: &HostRuntime) -> anyhow::Result<()> {
-    let (plan, horizon) = asked(rt)?;
+    let (plan, horizon) = asked(&rt)?;
     let bytes = read_all(&mut rt.stdin(), rt.alloc(), MOST)?;
-    show_plan(rt, &plan, horizon, &bytes)?;
+    show_plan(&rt, &plan, horizon, &bytes)?;
     Ok(())
 }
 
@@ -54,35 +46,19 @@ fn asked(rt: &HostRuntime) -> anyhow::Result<(Chosen, u16)> {
         return Err(anyhow!("the horizon is missing"));
     };
     match words.next() {
-        None => Ok((Chosen::default(), horizon_of(rt, first.as_str())?)),
-        Some(second) => Ok((
-            plan_of(rt, first.as_str())?,
-            horizon_of(rt, second.as_str())?,
-        )),
+        None => Ok((Chosen::default(), horizon_of(first.as_str())?)),
+        Some(second) => Ok((plan_of(first.as_str())?, horizon_of(second.as_str())?)),
     }
 }
 
-fn plan_of(rt: &HostRuntime, word: &str) -> anyhow::Result<Chosen> {
-    match Chosen::by_number(word.parse::<u16>()?) {
-        Ok(plan) => Ok(plan),
-        Err(fault) => Err(told(rt, fault)),
-    }
+fn plan_of(word: &str) -> anyhow::Result<Chosen> {
+    Ok(word.parse::<u16>()?.try_into()?)
 }
 
-fn horizon_of(rt: &HostRuntime, word: &str) -> anyhow::Result<u16>
+fn horizon_of(word: &str) -> anyhow::Result<u16>
     ensures { IfOk result (λ n. (1 ≤ n) × (n ≤ horizon)) }
 {
-    match horizon_by_number(word.parse::<u16>()?) {
-        Ok(horizon) => Ok(horizon),
-        Err(fault) => Err(told(rt, fault)),
-    }
-}
-
-fn told(rt: &HostRuntime, fault: Fault) -> anyhow::Error {
-    match format!(in rt.alloc(); "{fault}") {
-        Ok(text) => anyhow!(text),
-        Err(error) => error.into(),
-    }
+    Ok(horizon_by_number(word.parse::<u16>()?)?)
 }
 
 /// Prints a step: its number, its part, its cell, its noise, and the steps of its cover.

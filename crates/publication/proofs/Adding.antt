@@ -1,10 +1,9 @@
 -- A record behind those that are written.
-use Rattle.std.proofs.Common.{◌≡◌, ℕ, ◌-◌, ◌≤◌, min, Bool, true, false, cond, ◌&&◌, leb, List, [], ◌++◌, length, take, drop, Ok, Err, Result, sym, refl, ap, ◌∙◌, arith, le-leb, leb-false, leb-true}
+use Rattle.std.proofs.Common.{◌≡◌, ℕ, ◌-◌, ◌≤◌, min, Bool, true, false, cond, leb, List, [], ◌++◌, length, take, drop, Err, sym, refl, ap, ◌∙◌, arith, le-leb, leb-false, leb-true}
 use borrow.Rule.Slice.PartMut.{put_mid}
 use Rattle.std.proofs.lemmas.List.{append-nil, drop_all, length-drop, take_all, take_rest}
-use Rattle.fault.specs.Told.{Told}
-use Rattle.record.specs.Kinds.{Entry, bytes_of, kind_of}
-use Rattle.record.specs.Writes.{number_of_counts, write_of, output_after}
+use Rattle.record.specs.Kinds.{Entry, kind_of}
+use Rattle.record.specs.Writes.{output_after}
 use Rattle.publication.specs.Works.{added_with, kind_not_taken, output_added, output_with, taken, written_with}
 
 -- the place is where the written bytes end, or the output's end
@@ -32,19 +31,6 @@ module _ (written : ℕ) (out : List ℕ) (at : ℕ) (is : at ≡ min written (l
       let none : drop (length out - at) (drop at out) ≡ [] = drop_all (length out - at) (drop at out) (let l = length-drop at out in omega arith) in
       let same : part ≡ output_after e (drop written out) = p ∙ ap (output_after e) (take_rest out at ∙ same_back) in
       ap (λ (xs : List ℕ). take at out ++ (part ++ xs)) none ∙ (ap (λ (xs : List ℕ). take at out ++ xs) (append-nil part) ∙ (ap (λ (xs : List ℕ). xs ++ part) same-front ∙ ap (λ (xs : List ℕ). take written out ++ xs) same))
-
-ok-size : (c r : Bool) (n size : ℕ) (s t : Told) → ◌≡◌ {A = Result ℕ Told} (Ok size) (cond c (cond r (Ok n) (Err s)) (Err t)) → (r ≡ true) × (size ≡ n)
-ok-size true true n size s t h = (refl, cc)
-ok-size true false n size s t h = let z : ◌≡◌ {A = ℕ} 0 1 = cc in absurd (omega arith)
-ok-size false r n size s t h = let z : ◌≡◌ {A = ℕ} 0 1 = cc in absurd (omega arith)
-
--- an accepted record fits the room
-pub size_fits : (e : Entry) (room size : ℕ) → Ok size ≡ write_of e room → (4 ≤ size) × (size ≤ room)
-size_fits e room size h =
-    let s = ok-size (leb 1 (number_of_counts e) && leb (number_of_counts e) 8) (leb (length (bytes_of e)) room) (length (bytes_of e)) size _ _ h in
-    let l = leb-true (length (bytes_of e)) room s.0 in
-    let four : 4 ≤ length (bytes_of e) = omega arith in
-    (omega (arith, s.1), omega (arith, s.1))
 
 -- a record of a kind that is taken
 module _ (e : Entry) (low : 33 ≤ kind_of e) (high : kind_of e ≤ 36) where

@@ -6,24 +6,25 @@ ghost use Rattle.record.specs.Reads.{body_in, refusal, rest_after};
 ghost use Rattle.record.specs.Seen.{Borrows, seen};
 ghost use Rattle.publication.specs.Events.{allowed, event_in};
 
-use fault::{Cause, Fault, Layer};
-use record::{Reading, read_record};
+use fault::{Cause, Layer};
+use record::{Kind, Reading, read_record};
 
 /// Whether the first event record is to come, which has to be a set-up, or a later one.
-#[derive(Clone, Copy)]
+#[derive(Clone, Copy, Debug, PartialEq, Eq)]
 pub enum Stage {
     First,
     Later,
 }
 
 impl Stage {
-    /// Whether a record of this kind may come.
-    fn allows(self, kind: u16) -> bool
-        ensures { result ≡ allowed self kind }
+    /// Whether a record of the kind with this number may come.
+    fn allows(self, number: u16) -> bool
+        ensures { result ≡ allowed self number }
     {
-        match self {
-            Stage::First => kind == 1,
-            Stage::Later => 2 <= kind && kind <= 4,
+        match Kind::try_from(number) {
+            Ok(Kind::SetUp) => self == Stage::First,
+            Ok(Kind::Open | Kind::Step | Kind::Close) => self == Stage::Later,
+            _ => false,
         }
     }
 }
@@ -46,19 +47,19 @@ pub fn read_event(bytes: &[u8], stage: Stage) -> (Reading<'_>, &[u8])
     (reading, rest)
 }
 
-/// The kind in a header.
+/// The number of the kind in a header.
 fn kind_of(bytes: &[u8]) -> u16
     requires { 4 ≤ length bytes.now }
     ensures { result ≡ field 2 2 bytes.now }
 {
-    u16::from_le_bytes([bytes[2], bytes[3]])
+    let [_, _, low, high, ..] = bytes else {
+        unreachable!();
+    };
+    u16::from_le_bytes([*low, *high])
 }
 
 fn out_of_place<'a>(kind: u16) -> Reading<'a>
     ensures { seen result ≡ refusal 17 kind }
 {
-    Reading::Faulty(Fault {
-        cause: Cause::KindNotAllowed(kind),
-        layer: Layer::Record,
-    })
+    Reading::Faulty(Cause::KindNotAllowed(kind).by(Layer::Record))
 }

@@ -4,11 +4,12 @@ ghost use Rattle.std.specs.Prelude.{◌≡◌, ◌-◌, length};
 ghost use Rattle.fault.specs.Told.{told};
 ghost use Rattle.record.specs.Kinds.{ended};
 ghost use Rattle.record.specs.Seen.{entry_of};
-ghost use Rattle.publication.specs.Works.{added_as, added_with, capped, Counted, ended_as, HandedBack, kind_not_taken, output_added, output_with, refused_by, written_with};
+ghost use Rattle.publication.specs.Works.{added_as, added_with, capped, Counted, ended_as, HandedBack, output_added, output_with, refused_by, written_with};
 
 use fault::{Cause, Fault, Layer};
-use record::Record;
+use record::{Kind, Record};
 
+// Numbers alone, by a rule of the project: the output is lent at each call and lies in no publication.
 /// A publication that takes records: how many bytes of the output are written, and how many records they are. It cannot
 /// be copied or let go: it is ended, or given up.
 pub struct InWork {
@@ -66,11 +67,10 @@ impl InWork {
         ensures count { Counted self result }
         ensures after { out.new ≡ output_added self.written (entry_of entry.now) out.old }
     {
-        let kind = entry.kind();
-        if kind < 33 || kind > 36 {
-            return Err((not_taken(kind), self));
+        match entry.kind() {
+            Kind::Opened | Kind::Published | Kind::Closed | Kind::Refused => self.add(out, entry),
+            kind => Err((Cause::KindNotAllowed(kind.number()).by(Layer::Record), self)),
         }
-        self.add(out, entry)
     }
 
     /// Adds the refused record of a fault that an event record met. Places and event numbers that 32 bits cannot hold are
@@ -91,12 +91,10 @@ impl InWork {
         ensures after { out.new ≡ output_with self.written (ended self.records) out.old }
     {
         let entry = end_record(self.records);
-        match self.add(out, &entry) {
-            Ok(whole) => Ok(Ended {
-                written: whole.give_up(),
-            }),
-            Err(refused) => Err(refused),
-        }
+        let whole = self.add(out, &entry)?;
+        Ok(Ended {
+            written: whole.give_up(),
+        })
     }
 
     /// Gives the publication up without an end record, and answers how many bytes are written.
@@ -126,16 +124,6 @@ impl Ended {
     }
 }
 
-/// The refusal of a record of a kind that a publication in work does not take.
-fn not_taken(kind: u16) -> Fault
-    ensures { told result ≡ kind_not_taken kind }
-{
-    Fault {
-        cause: Cause::KindNotAllowed(kind),
-        layer: Layer::Record,
-    }
-}
-
 fn end_record<'a>(records: u32) -> Record<'a>
     ensures { entry_of result ≡ ended records }
 {
@@ -157,5 +145,5 @@ fn refused_record<'a>(fault: Fault, event: u64) -> Record<'a>
 fn cut(number: u64) -> u32
     ensures { result ≡ capped number }
 {
-    number.min(4_294_967_295) as u32
+    u32::try_from(number).unwrap_or(u32::MAX)
 }

@@ -1,5 +1,4 @@
 mod Calls
-mod Few
 mod Going
 mod Rooms
 mod Stops

@@ -1,11 +1,13 @@
 -- Records added where there is room for them.
-use Rattle.std.proofs.Common.{◌≡◌, ℕ, ◌+◌, ◌-◌, ◌≤◌, List, [], ◌∷◌, ◌++◌, length, take, drop, Ok, Err, Result, sym, refl, ap, ◌∙◌, add-zero, zero-add, arith}
+use Rattle.std.proofs.Common.{◌≡◌, ℕ, ◌+◌, ◌-◌, ◌≤◌, List, [], ◌∷◌, ◌++◌, length, take, drop, Ok, Result, sym, refl, ap, ◌∙◌, subst, add-zero, zero-add, arith}
 use Rattle.std.proofs.lemmas.List.{append_assoc, append-nil, drop-drop, drop_at, length-append, length-drop, length-take-le, take-append-drop, take_at}
+use Rattle.fault.specs.declared.Fault.{Fault}
 use Rattle.fault.specs.Told.{Told}
 use Rattle.record.specs.Kinds.{Entry, bytes_of, ended}
 use Rattle.record.specs.Writes.{number_of_counts, put, write_of}
 use Rattle.record.proofs.Written.{write-accepts, output-accepted}
-use Rattle.publication.specs.Works.{capped, grown, output_with, written_with}
+use Rattle.publication.specs.Works.{added_as, capped, Counted, ended_as, grown, output_with, written_with}
+use Rattle.publication.specs.declared.work.Ended.{Ended}
 use Rattle.publication.specs.declared.work.InWork.{InWork}
 use Rattle.publishing.specs.Whole.{bytes_in, whole}
 use Rattle.publishing.specs.Written.{Wrote}
@@ -27,25 +29,27 @@ module _ (e : Entry) (at : ℕ) (out : List ℕ) (some : 1 ≤ number_of_counts 
       ∙ ap (λ (xs : List ℕ). take at out ++ (bytes_of e ++ xs)) (ap (λ (n : ℕ). drop n (drop at out)) (zero-add (length (bytes_of e))) ∙ drop-drop (length (bytes_of e)) at out)
       ∙ sym (append_assoc (take at out) (bytes_of e) (drop (at + length (bytes_of e)) out))
 
-pub ok_same : (m n : ℕ) (r : Result ℕ Told) → ◌≡◌ {A = Result ℕ Told} (Ok m) r → r ≡ Ok n → m ≡ n
-ok_same m n r p q = cc
+ok-same : (m n : ℕ) (r : Result ℕ Told) → ◌≡◌ {A = Result ℕ Told} (Ok m) r → r ≡ Ok n → m ≡ n
+ok-same m n r p q = cc
 
-pub err-not-ok : (t : Told) (n : ℕ) (r : Result ℕ Told) → ◌≡◌ {A = Result ℕ Told} (Err t) r → r ≡ Ok n → ⊥
-err-not-ok t n r p q = let z : ◌≡◌ {A = ℕ} 0 1 = cc in omega arith
+-- a record that is added where there is room for it
+module _ (e : Entry) (work : InWork) (out : List ℕ) (some : 1 ≤ number_of_counts e) (few : number_of_counts e ≤ 8) (room : work.written + length (bytes_of e) ≤ length out)
+    (r : Result InWork (Fault × InWork)) (answer : added_as r ≡ written_with work.written e (length out)) where
+  pub wrote-one : (then : InWork) (done : List ℕ) → r ≡ Ok then → Counted work r → done ≡ output_with work.written e out → Wrote (e ∷ []) work out then done
+  wrote-one then done is counted after =
+      let nil = append-nil (bytes_of e) in
+      let size : ◌≡◌ {A = Result ℕ Told} (Ok then.written) (written_with work.written e (length out)) = ap added_as (sym is) ∙ answer in
+      let count : then.records ≡ capped (work.records + 1) = subst (Counted work) is counted in
+      record {
+        written = ok-same then.written (work.written + length (bytes_of e)) _ size (written-fits e work.written out some few room) ∙ ap (λ (xs : List ℕ). work.written + length xs) (sym nil);
+        records = λ n h. omega (arith, count);
+        output = after ∙ output-fits e work.written out some few room ∙ ap (λ (xs : List ℕ). put work.written xs out) (sym nil);
+      }
 
-pub wrote_one : (e : Entry) (work then : InWork) (out done : List ℕ)
-    → 1 ≤ number_of_counts e → number_of_counts e ≤ 8 → work.written + length (bytes_of e) ≤ length out
-    → Ok then.written ≡ written_with work.written e (length out)
-    → then.records ≡ capped (work.records + 1)
-    → done ≡ output_with work.written e out
-    → Wrote (e ∷ []) work out then done
-wrote_one e work then out done some few room size count after =
-    let nil = append-nil (bytes_of e) in
-    record {
-      written = ok_same then.written (work.written + length (bytes_of e)) _ size (written-fits e work.written out some few room) ∙ ap (λ (xs : List ℕ). work.written + length xs) (sym nil);
-      records = λ n h. omega (arith, count);
-      output = after ∙ output-fits e work.written out some few room ∙ ap (λ (xs : List ℕ). put work.written xs out) (sym nil);
-    }
+-- the end record
+module _ (work : InWork) (out : List ℕ) (room : work.written + 8 ≤ length out) (r : Result Ended (Fault × InWork)) (answer : ended_as r ≡ written_with work.written (ended work.records) (length out)) where
+  pub end-size : (end : Ended) → r ≡ Ok end → end.written ≡ work.written + 8
+  end-size end is = ok-same end.written (work.written + 8) _ (ap ended_as (sym is) ∙ answer) (written-fits (ended work.records) work.written out (omega arith) (omega arith) room)
 
 -- no record
 pub wrote_none : (work : InWork) (out : List ℕ) → Wrote [] work out work out
@@ -102,10 +106,10 @@ module _ (es : List Entry) (work then : InWork) (out done end : List ℕ) (start
   counted : then.records ≡ capped (length es)
   counted = wrote.records 0 (none ∙ omega arith) ∙ ap capped (zero-add (length es))
 
-  pub whole_long : then.written + 8 ≡ length (whole es)
+  whole_long : then.written + 8 ≡ length (whole es)
   whole_long = let a = at-end in omega (arith, length-append (bytes_in es) (bytes_of (ended (capped (length es)))))
 
-  pub whole-output : end ≡ whole es ++ drop (length (whole es)) out
+  whole-output : end ≡ whole es ++ drop (length (whole es)) out
   whole-output =
       let fits : 0 + length (bytes_in es) ≤ length out = let a = at-end in omega arith in
       ending
@@ -114,3 +118,7 @@ module _ (es : List Entry) (work then : InWork) (out done end : List ℕ) (start
       ∙ ap (put (0 + length (bytes_in es)) (bytes_of (ended (capped (length es))))) (wrote.output ∙ ap (λ (n : ℕ). put n (bytes_in es) out) start)
       ∙ put-put 0 (bytes_in es) (bytes_of (ended (capped (length es)))) out fits
       ∙ ap (λ (n : ℕ). whole es ++ drop n out) (zero-add (length (whole es)))
+
+  -- how long the publication is, and what the output is then
+  pub ended-whole : (then.written + 8 ≡ length (whole es)) × (end ≡ whole es ++ drop (length (whole es)) out)
+  ended-whole = (whole_long, whole-output)

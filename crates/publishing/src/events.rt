@@ -13,8 +13,5 @@ pub(crate) const LEAST_ROOM: usize = 120;
 pub(crate) fn no_room(left: usize) -> Fault
     ensures { told result ≡ tell 19 7 left }
 {
-    Fault {
-        cause: Cause::NoRoom(left),
-        layer: Layer::Publication,
-    }
+    Cause::NoRoom(left).by(Layer::Publication)
 }

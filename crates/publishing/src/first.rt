@@ -8,15 +8,14 @@ ghost use Rattle.publishing.specs.Whole.{records, records_first};
 ghost use Rattle.publishing.specs.Starts.{SetUpBy, records_set_up};
 ghost use Rattle.publishing.specs.Written.{Wrote};
 
-use crate::course::answer_rest;
+use crate::keeper::{Keeper, misplaced};
 use crate::output::put_refused;
-use crate::serve::misplaced;
 use fault::Fault;
 use finisher::{Plain, Rising};
 use plan::Chosen;
 use publication::{InWork, Stage, read_event};
 use record::{Reading, Record};
-use station::{Lawful, Setting, Station};
+use station::{Lawful, Setting};
 use tape::{ByteTape, Tape};
 
 /// What a set-up makes a station from, beside the tape.
@@ -71,8 +70,8 @@ fn set_up_by(setting: Setting, number: u16) -> Result<Start, Fault>
     ensures { SetUpBy setting number result }
 {
     setting.class_count()?;
-    let plan = Chosen::by_number(number)?;
-    let setting = setting.lawful()?;
+    let plan = Chosen::try_from(number)?;
+    let setting = Lawful::try_from(setting)?;
     Ok(Start { setting, plan })
 }
 
@@ -91,7 +90,8 @@ fn follow<T: Tape + Drop>(
     ensures room { result.written + 8 ≤ length out.new }
 {
     let Start { setting, plan } = start;
-    let finisher = Rising::new(Plain);
-    let mut station = Station::new(setting, plan, tape, finisher);
-    answer_rest(&mut station, work, out, events)
+    let mut keeper = Keeper::new(setting, plan, tape, Rising::new(Plain));
+    let work = keeper.answer_rest(work, out, events);
+    keeper.end();
+    work
 }

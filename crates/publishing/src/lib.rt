@@ -17,9 +17,8 @@ use publication::InWork;
 mod course;
 mod events;
 mod first;
+mod keeper;
 mod output;
-mod reply;
-mod serve;
 
 /// Writes the publication of the events, with noise from a byte tape, at the start of the output, and answers how many
 /// bytes it has; later bytes stay. An output of fewer than 120 bytes is refused, and nothing is stored.

@@ -1,8 +1,10 @@
 pub mod Numbers
+pub mod Unknown
 pub mod Whole
 pub mod Digits
 pub mod ReadBack
 pub mod SameBytes
 pub mod Puts
-pub mod Counts
+pub mod Firsts
+pub mod Bodies
 pub mod Written

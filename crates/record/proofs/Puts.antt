@@ -1,5 +1,5 @@
 -- One store after another.
-use Rattle.std.proofs.Common.{◌≡◌, ℕ, ◌+◌, List, ◌++◌, length, take, drop, sym, ap, ◌∙◌, zero-add}
+use Rattle.std.proofs.Common.{◌≡◌, ℕ, ◌+◌, List, ◌++◌, length, take, drop, sym, ◌∙◌, subst, zero-add}
 use borrow.Rule.Slice.PartMut.{put_mid}
 use Rattle.std.proofs.lemmas.List.{take_at, drop-drop, length-append, append_assoc, drop_at}
 use Rattle.record.specs.Little.{little}
@@ -18,6 +18,17 @@ put-more ys zs xs was now at l p q =
     sym (drop-drop (length zs) at was) ∙ rw (start, drop_at ys (drop (length ys) xs) at l, drop-drop, length-append, zero-add) in
     q ∙ rw (front, back)
 
--- a header and a body, said in two ways
-pub same-frame : (k m n : ℕ) (a b xs : List ℕ) → m ≡ n → a ≡ b → put 0 (little 2 m ++ little 2 k ++ a) xs ≡ put 0 (little 2 n ++ little 2 k ++ b) xs
-same-frame k m n a b xs p q = ap (λ (z : ℕ). put 0 (little 2 z ++ little 2 k ++ a) xs) p ∙ ap (λ (z : List ℕ). put 0 (little 2 n ++ little 2 k ++ z) xs) q
+-- bytes that stand at the start, and those behind them as they were
+pub record Begun (ys old new : List ℕ) : Type 0 where
+  pub is : new ≡ put 0 ys old
+
+pub begun : {ys old new : List ℕ} → new ≡ put 0 ys old → Begun ys old new
+begun p = record { is = p }
+
+pub more : {ys old was now : List ℕ} (at : ℕ) (zs : List ℕ) → Begun ys old was → now ≡ put at zs was → length ys ≡ at → Begun (ys ++ zs) old now
+more {ys} {old} {was} {now} at zs b q l = record { is = put-more ys zs old was now at l b.is q }
+
+-- a header and a body that is another's
+pub framed : {old new : List ℕ} (k n : ℕ) (a b : List ℕ) → a ≡ b → n ≡ length b → Begun (little 2 n ++ little 2 k ++ a) old new → Begun (little 2 (length b) ++ little 2 k ++ b) old new
+framed {old} {new} k n a b p q begun =
+    subst (λ (z : List ℕ). Begun (little 2 (length b) ++ little 2 k ++ z) old new) p (subst (λ (z : ℕ). Begun (little 2 z ++ little 2 k ++ a) old new) q begun)

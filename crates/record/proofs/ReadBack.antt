@@ -1,8 +1,9 @@
 -- What is written reads back.
-use Rattle.std.proofs.Common.{◌≡◌, ℕ, ◌-◌, ◌*◌, ◌/◌, ◌%◌, ◌^◌, ◌<◌, ◌≤◌, true, ◌&&◌, leb, List, [], ◌∷◌, ◌++◌, map, length, ℤ, pos, negsuc, sym, refl, ap, ◌∙◌, subst, mul-div_cancel, arith, lit<, w64, SFits, to_z, of_z}
+use Rattle.std.proofs.Common.{◌≡◌, ℕ, ◌-◌, ◌*◌, ◌/◌, ◌%◌, ◌^◌, ◌<◌, ◌≤◌, true, ◌&&◌, leb, List, [], ◌∷◌, ◌++◌, map, length, ℤ, sym, refl, ap, ◌∙◌, subst, mul-div_cancel, arith, lit<, w64, SFits, to_z, of_z}
 use native.Mathlib.Nat.{mul-mod_left}
 use Rattle.std.specs.List.{AllByRecursion}
 use Rattle.std.proofs.lemmas.List.{length-map, take_at, drop_at, append-nil, length-append}
+use Rattle.std.proofs.Math.Facts.{Fits-of_z}
 use Rattle.std.proofs.lemmas.Int.{to_z-of_z}
 use Rattle.std.proofs.lemmas.Bool.Decides.{nat_tests}
 use Rattle.record.specs.Little.{little, field, numbers, spread}
@@ -39,15 +40,11 @@ row-spread cs h =
     let q : length (spread 2 cs) / 2 ≡ length cs = omega arith in
     rw q (subst (λ (bs : List ℕ). numbers 2 (length cs) bs ≡ cs) (append-nil (spread 2 cs)) (numbers-spread 2 cs [] h))
 
-of_z-lt : (z : ℤ) → SFits w64 z → of_z w64 z < 2 ^ 64
-of_z-lt (pos n) h = omega (arith, h.sfits)
-of_z-lt (negsuc n) h = omega arith
-
 unsigned : (cs : List ℤ) → AllByRecursion (SFits w64) cs → AllByRecursion (λ n. n < 2 ^ 64) (map (of_z w64) cs) × (map (to_z w64) (map (of_z w64) cs) ≡ cs)
 unsigned [] h = (tt, refl)
 unsigned (z ∷ cs) (h, hs) =
     let rest = unsigned cs hs in
-    ((of_z-lt z h, rest.0), rw (to_z-of_z w64 z h, rest.1))
+    (((Fits-of_z h).fits, rest.0), rw (to_z-of_z w64 z h, rest.1))
 
 pub tally-spread : (cs : List ℤ) → AllByRecursion (SFits w64) cs → tally_in (spread 8 (map (of_z w64) cs)) ≡ cs
 tally-spread cs h =

@@ -1,5 +1,5 @@
 -- What the writer answers and stores, and the two laws that tie it to the reader.
-use Rattle.std.specs.Prelude.{◌≡◌, ℕ, ◌+◌, cond, ◌&&◌, List, ◌++◌, length, take, drop, is_ok, Ok, Err, Result, nat_le}
+use Rattle.std.specs.Prelude.{◌≡◌, ℕ, ◌+◌, cond, ◌&&◌, List, ◌++◌, length, take, drop, is_ok, Ok, Err, Result, IfOk, nat_le}
 use Rattle.fault.specs.Told.{Told}
 use Rattle.record.specs.Kinds.{Entry, set_up, opening, stepping, closing, opened, published, closed, refused, ended, bytes_of}
 use Rattle.record.specs.Reads.{found, answer_to, rest_after}
@@ -34,3 +34,9 @@ put at ys xs = take at xs ++ ys ++ drop (at + length ys) xs
 -- the bytes read back as the entry, whatever follows them
 abbrev pub ReadsBack : List ℕ → Entry → Type 0
 ReadsBack bytes e = (tail : List ℕ) → (answer_to (bytes ++ tail) ≡ found e) × (rest_after (bytes ++ tail) ≡ tail)
+
+-- what a write of an entry answers and stores, and that it reads back
+pub record Stored (e : Entry) (old : List ℕ) (answer : Result ℕ Told) (new : List ℕ) : Type 0 where
+  pub value : answer ≡ write_of e (length old)
+  pub after : new ≡ output_after e old
+  pub reads_back : IfOk answer (λ n. ReadsBack (take n new) e)

@@ -1,60 +1,53 @@
 //! The nine kinds of records.
 
-ghost use Rattle.std.specs.Prelude.{◌≡◌, length};
-ghost use Rattle.std.specs.List.{slice_get};
-ghost use Rattle.record.specs.Kinds.{kind_of, row_in, tally_in};
+ghost use Rattle.std.specs.Prelude.{◌≡◌};
+ghost use Rattle.record.specs.Kinds.{kind_of};
+ghost use Rattle.record.specs.Numbered.{number_of_kind, IsKindOf};
 ghost use Rattle.record.specs.Seen.{entry_of};
 
-use crate::fields::{i64_at, u16_at};
+use crate::counts::{Row, Tally};
+use fault::{Cause, Fault, Layer};
 
-/// The counts of a row, two bytes each, as they stand in a step record's body. A byte over is ignored.
-#[derive(Clone, Copy)]
-pub struct Row<'a> {
-    pub bytes: &'a [u8],
+/// A kind of records, by its number.
+#[derive(Clone, Copy, Debug, PartialEq, Eq)]
+pub enum Kind {
+    SetUp = 1,
+    Open = 2,
+    Step = 3,
+    Close = 4,
+    Opened = 33,
+    Published = 34,
+    Closed = 35,
+    Refused = 36,
+    End = 37,
 }
 
-impl Row<'_> {
-    /// How many counts there are.
-    pub fn len(&self) -> usize
-        ensures { result ≡ length (row_in self.now.bytes.now) }
+impl Kind {
+    /// The kind's number.
+    pub fn number(self) -> u16
+        ensures { result ≡ number_of_kind self }
     {
-        self.bytes.len() / 2
-    }
-
-    /// The count of a class.
-    pub fn get(&self, class: usize) -> Option<u16>
-        ensures { result ≡ slice_get (row_in self.now.bytes.now) class }
-    {
-        if class < self.len() {
-            Some(u16_at(self.bytes, 2 * class))
-        } else {
-            None
-        }
+        self as u16
     }
 }
 
-/// Published counts, signed, eight bytes each, as they stand in a published record's body. Bytes over are ignored.
-#[derive(Clone, Copy)]
-pub struct Tally<'a> {
-    pub bytes: &'a [u8],
-}
+impl TryFrom<u16> for Kind {
+    type Error = Fault;
 
-impl Tally<'_> {
-    /// How many counts there are.
-    pub fn len(&self) -> usize
-        ensures { result ≡ length (tally_in self.now.bytes.now) }
-    {
-        self.bytes.len() / 8
-    }
+    ghost try_from_gives = { IsKindOf };
 
-    /// The count of a class.
-    pub fn get(&self, class: usize) -> Option<i64>
-        ensures { result ≡ slice_get (tally_in self.now.bytes.now) class }
-    {
-        if class < self.len() {
-            Some(i64_at(self.bytes, 8 * class))
-        } else {
-            None
+    fn try_from(number: u16) -> Result<Kind, Fault> {
+        match number {
+            1 => Ok(Kind::SetUp),
+            2 => Ok(Kind::Open),
+            3 => Ok(Kind::Step),
+            4 => Ok(Kind::Close),
+            33 => Ok(Kind::Opened),
+            34 => Ok(Kind::Published),
+            35 => Ok(Kind::Closed),
+            36 => Ok(Kind::Refused),
+            37 => Ok(Kind::End),
+            _ => Err(Cause::KindNotAllowed(number).by(Layer::Record)),
         }
     }
 }
@@ -102,20 +95,20 @@ pub enum Record<'a> {
 }
 
 impl Record<'_> {
-    /// The number of its kind.
-    pub fn kind(&self) -> u16
-        ensures { result ≡ kind_of (entry_of self.now) }
+    /// Its kind.
+    pub fn kind(&self) -> Kind
+        ensures { number_of_kind result ≡ kind_of (entry_of self.now) }
     {
         match self {
-            Record::SetUp { .. } => 1,
-            Record::Open { .. } => 2,
-            Record::Step { .. } => 3,
-            Record::Close => 4,
-            Record::Opened { .. } => 33,
-            Record::Published { .. } => 34,
-            Record::Closed { .. } => 35,
-            Record::Refused { .. } => 36,
-            Record::End { .. } => 37,
+            Record::SetUp { .. } => Kind::SetUp,
+            Record::Open { .. } => Kind::Open,
+            Record::Step { .. } => Kind::Step,
+            Record::Close => Kind::Close,
+            Record::Opened { .. } => Kind::Opened,
+            Record::Published { .. } => Kind::Published,
+            Record::Closed { .. } => Kind::Closed,
+            Record::Refused { .. } => Kind::Refused,
+            Record::End { .. } => Kind::End,
         }
     }
 }

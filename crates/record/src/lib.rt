@@ -3,11 +3,13 @@
 
 #![tactic(auto)]
 
-mod fields;
+mod counts;
 mod kinds;
+mod number;
 mod reader;
 mod text;
 mod writer;
 
-pub use kinds::{Record, Row, Tally};
+pub use counts::{Counts, Remaining, Row, Tally};
+pub use kinds::{Kind, Record};
 pub use reader::{Reading, read_record};

@@ -1,20 +1,34 @@
 //! Reading: the first record of some bytes, and the bytes that follow it.
 
-ghost use Rattle.std.specs.Prelude.{◌≡◌, ◌<◌, ◌++◌, length as size};
+ghost use Rattle.std.specs.Prelude.{◌≡◌, ◌<◌, ◌==◌, ◌++◌, length as size, cond};
+ghost use Rattle.record.specs.Little.{field};
 ghost use Rattle.record.specs.Kinds.{Entry, bytes_of};
-ghost use Rattle.record.specs.Seen.{Borrows, seen};
-ghost use Rattle.record.specs.Reads.{answer_to, body_in, decode, has_few_counts, found, refusal, rest_after};
+ghost use Rattle.record.specs.Seen.{Borrows, Unpacked, reading_of, seen};
+ghost use Rattle.record.specs.Reads.{answer_to, body_in, has_few_counts, found, refusal, rest_after};
 
-use crate::fields::{u16_at, u32_at};
-use crate::kinds::{Record, Row, Tally};
+use crate::counts::{Row, Tally};
+use crate::kinds::{Kind, Record};
+use crate::number::{Count, Number};
 use fault::{Cause, Fault, Layer};
 
+// One enum, in no Option or Result, is what the reader answers by a rule of the project.
 /// What stands at the start of some bytes.
 #[derive(Clone, Copy)]
 pub enum Reading<'a> {
     Found(Record<'a>),
     Nothing,
     Faulty(Fault),
+}
+
+impl<'a> From<Result<Record<'a>, Fault>> for Reading<'a> {
+    ghost from_gives = { λ unpacked reading. reading ≡ reading_of unpacked };
+
+    fn from(unpacked: Result<Record<'a>, Fault>) -> Reading<'a> {
+        match unpacked {
+            Ok(record) => Reading::Found(record),
+            Err(fault) => Reading::Faulty(fault),
+        }
+    }
 }
 
 /// The first record of the bytes, and the bytes that follow it.
@@ -33,7 +47,8 @@ pub fn read_record(bytes: &[u8]) -> (Reading<'_>, &[u8])
                 return (cut_short(bytes), bytes);
             }
             let kind = u16::from_le_bytes([*kind_low, *kind_high]);
-            (unpack(kind, &tail[0..length]), &tail[length..])
+            let reading = Reading::from(unpack(kind, &tail[0..length]));
+            (reading, &tail[length..])
         }
         _ => (cut_short(bytes), bytes),
     }
@@ -43,56 +58,58 @@ fn cut_short<'a>(bytes: &[u8]) -> Reading<'a>
     ensures value { seen result ≡ refusal 16 (size bytes.now) }
     ensures borrowed { Borrows result (body_in bytes.now) }
 {
-    Reading::Faulty(Fault {
-        cause: Cause::CutShort(bytes.len()),
-        layer: Layer::Record,
-    })
+    Reading::Faulty(Cause::CutShort(bytes.len()).by(Layer::Record))
 }
 
-/// The record of this kind with this body.
-fn unpack(kind: u16, body: &[u8]) -> Reading<'_>
-    ensures value { seen result ≡ decode kind body.now }
-    ensures borrowed { Borrows result body.now }
+/// The record of the kind with this number, with this body.
+fn unpack(kind: u16, body: &[u8]) -> Result<Record<'_>, Fault>
+    ensures { Unpacked kind body.now result }
 {
-    match kind {
-        1 => unpack_set_up(body),
-        2 => unpack_open(body),
-        3 => unpack_step(body),
-        4 => unpack_close(body),
-        33 => unpack_opened(body),
-        34 => unpack_published(body),
-        35 => unpack_closed(body),
-        36 => unpack_refused(body),
-        37 => unpack_end(body),
-        _ => Reading::Faulty(Fault {
-            cause: Cause::KindNotAllowed(kind),
-            layer: Layer::Record,
-        }),
+    match Kind::try_from(kind)? {
+        Kind::SetUp => unpack_set_up(body),
+        Kind::Open => unpack_open(body),
+        Kind::Step => unpack_step(body),
+        Kind::Close => unpack_close(body),
+        Kind::Opened => {
+            let (serial, horizon, held) = unpack_epoch(body)?;
+            Ok(Record::Opened {
+                serial,
+                horizon,
+                held,
+            })
+        }
+        Kind::Published => unpack_published(body),
+        Kind::Closed => {
+            let (serial, steps, spent) = unpack_epoch(body)?;
+            Ok(Record::Closed {
+                serial,
+                steps,
+                spent,
+            })
+        }
+        Kind::Refused => unpack_refused(body),
+        Kind::End => unpack_end(body),
     }
 }
 
-fn unfit<'a>(body: &[u8]) -> Reading<'a>
-    ensures value { seen result ≡ refusal 18 (size body.now) }
-    ensures borrowed { Borrows result body.now }
+/// The refusal of a body whose length does not suit the kind.
+fn unfit(body: &[u8]) -> Fault
+    ensures { result ≡ record { cause = Cause.LengthUnfit (size body.now); layer = Layer.Record } }
 {
-    Reading::Faulty(Fault {
-        cause: Cause::LengthUnfit(body.len()),
-        layer: Layer::Record,
-    })
+    Cause::LengthUnfit(body.len()).by(Layer::Record)
 }
 
-fn unpack_set_up(body: &[u8]) -> Reading<'_>
-    ensures value { seen result ≡ decode 1 body.now }
-    ensures borrowed { Borrows result body.now }
+fn unpack_set_up(body: &[u8]) -> Result<Record<'_>, Fault>
+    ensures { Unpacked 1 body.now result }
 {
     if body.len() != 12 {
-        return unfit(body);
+        return Err(unfit(body));
     }
-    let station = u32_at(body, 0);
-    let classes = u16_at(body, 4);
-    let plan = u16_at(body, 6);
-    let grant = u32_at(body, 8);
-    Reading::Found(Record::SetUp {
+    let station = u32::read(body, 0);
+    let classes = u16::read(body, 4);
+    let plan = u16::read(body, 6);
+    let grant = u32::read(body, 8);
+    Ok(Record::SetUp {
         station,
         classes,
         plan,
@@ -100,102 +117,75 @@ fn unpack_set_up(body: &[u8]) -> Reading<'_>
     })
 }
 
-fn unpack_open(body: &[u8]) -> Reading<'_>
-    ensures value { seen result ≡ decode 2 body.now }
-    ensures borrowed { Borrows result body.now }
+fn unpack_open(body: &[u8]) -> Result<Record<'_>, Fault>
+    ensures { Unpacked 2 body.now result }
 {
     if body.len() != 2 {
-        return unfit(body);
+        return Err(unfit(body));
     }
-    Reading::Found(Record::Open {
-        horizon: u16_at(body, 0),
-    })
+    let horizon = u16::read(body, 0);
+    Ok(Record::Open { horizon })
 }
 
-fn unpack_step(body: &[u8]) -> Reading<'_>
-    ensures value { seen result ≡ decode 3 body.now }
-    ensures borrowed { Borrows result body.now }
+fn unpack_step(body: &[u8]) -> Result<Record<'_>, Fault>
+    ensures { Unpacked 3 body.now result }
 {
-    if !few_counts(2, body.len()) {
-        return unfit(body);
+    if !few_counts::<u16>(body.len()) {
+        return Err(unfit(body));
     }
-    Reading::Found(Record::Step {
-        row: Row { bytes: body },
-    })
+    let row = Row::new(body);
+    Ok(Record::Step { row })
 }
 
-fn unpack_close(body: &[u8]) -> Reading<'_>
-    ensures value { seen result ≡ decode 4 body.now }
-    ensures borrowed { Borrows result body.now }
+fn unpack_close(body: &[u8]) -> Result<Record<'_>, Fault>
+    ensures { Unpacked 4 body.now result }
 {
     if !body.is_empty() {
-        return unfit(body);
+        return Err(unfit(body));
     }
-    Reading::Found(Record::Close)
+    Ok(Record::Close)
 }
 
-fn unpack_opened(body: &[u8]) -> Reading<'_>
-    ensures value { seen result ≡ decode 33 body.now }
-    ensures borrowed { Borrows result body.now }
+/// What opened and closed records share: serial, steps, units.
+fn unpack_epoch(body: &[u8]) -> Result<(u32, u16, u32), Fault>
+    ensures { result ≡ cond (size body.now == 10) (Ok (field 0 4 body.now, field 4 2 body.now, field 6 4 body.now)) (Err (record { cause = Cause.LengthUnfit (size body.now); layer = Layer.Record })) }
 {
     if body.len() != 10 {
-        return unfit(body);
+        return Err(unfit(body));
     }
-    let serial = u32_at(body, 0);
-    let horizon = u16_at(body, 4);
-    let held = u32_at(body, 6);
-    Reading::Found(Record::Opened {
-        serial,
-        horizon,
-        held,
-    })
+    let serial = u32::read(body, 0);
+    let steps = u16::read(body, 4);
+    let units = u32::read(body, 6);
+    Ok((serial, steps, units))
 }
 
-fn unpack_published(body: &[u8]) -> Reading<'_>
-    ensures value { seen result ≡ decode 34 body.now }
-    ensures borrowed { Borrows result body.now }
+fn unpack_published(body: &[u8]) -> Result<Record<'_>, Fault>
+    ensures { Unpacked 34 body.now result }
 {
-    if body.len() < 6 || !few_counts(8, body.len() - 6) {
-        return unfit(body);
+    if body.len() < 6 || !few_counts::<i64>(body.len() - 6) {
+        return Err(unfit(body));
     }
-    let serial = u32_at(body, 0);
-    let step = u16_at(body, 4);
-    Reading::Found(Record::Published {
+    let serial = u32::read(body, 0);
+    let step = u16::read(body, 4);
+    let tally = Tally::new(&body[6..]);
+    Ok(Record::Published {
         serial,
         step,
-        tally: Tally { bytes: &body[6..] },
+        tally,
     })
 }
 
-fn unpack_closed(body: &[u8]) -> Reading<'_>
-    ensures value { seen result ≡ decode 35 body.now }
-    ensures borrowed { Borrows result body.now }
-{
-    if body.len() != 10 {
-        return unfit(body);
-    }
-    let serial = u32_at(body, 0);
-    let steps = u16_at(body, 4);
-    let spent = u32_at(body, 6);
-    Reading::Found(Record::Closed {
-        serial,
-        steps,
-        spent,
-    })
-}
-
-fn unpack_refused(body: &[u8]) -> Reading<'_>
-    ensures value { seen result ≡ decode 36 body.now }
-    ensures borrowed { Borrows result body.now }
+fn unpack_refused(body: &[u8]) -> Result<Record<'_>, Fault>
+    ensures { Unpacked 36 body.now result }
 {
     if body.len() != 12 {
-        return unfit(body);
+        return Err(unfit(body));
     }
-    let number = u16_at(body, 0);
-    let layer = u16_at(body, 2);
-    let place = u32_at(body, 4);
-    let event = u32_at(body, 8);
-    Reading::Found(Record::Refused {
+    let number = u16::read(body, 0);
+    let layer = u16::read(body, 2);
+    let place = u32::read(body, 4);
+    let event = u32::read(body, 8);
+    Ok(Record::Refused {
         number,
         layer,
         place,
@@ -203,22 +193,19 @@ fn unpack_refused(body: &[u8]) -> Reading<'_>
     })
 }
 
-fn unpack_end(body: &[u8]) -> Reading<'_>
-    ensures value { seen result ≡ decode 37 body.now }
-    ensures borrowed { Borrows result body.now }
+fn unpack_end(body: &[u8]) -> Result<Record<'_>, Fault>
+    ensures { Unpacked 37 body.now result }
 {
     if body.len() != 4 {
-        return unfit(body);
+        return Err(unfit(body));
     }
-    Reading::Found(Record::End {
-        records: u32_at(body, 0),
-    })
+    let records = u32::read(body, 0);
+    Ok(Record::End { records })
 }
 
-/// Whether a body part of this length is one to eight counts of `width` bytes.
-fn few_counts(width: usize, count: usize) -> bool
-    requires { 0 < width }
-    ensures { result ≡ has_few_counts width count }
+/// Whether a body part of this length is one to eight counts.
+fn few_counts<N: Count>(length: usize) -> bool
+    ensures { result ≡ has_few_counts N.SIZE length }
 {
-    count % width == 0 && 1 <= count / width && count / width <= 8
+    length % N::SIZE == 0 && 1 <= length / N::SIZE && length / N::SIZE <= 8
 }

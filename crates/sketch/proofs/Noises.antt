@@ -1,5 +1,5 @@
 -- The laws of noise, and how large it can be.
-use Rattle.std.proofs.Common.{◌≡◌, ℕ, zero, suc, ◌+◌, ◌-◌, ◌*◌, ◌^◌, ◌<◌, ◌≤◌, true, false, cond, ltb, List, [], ◌∷◌, length, get_or, ℤ, pos, negsuc, ◌+ℤ◌, ap, arith, w32, SFits}
+use Rattle.std.proofs.Common.{◌≡◌, ℕ, zero, suc, ◌+◌, ◌-◌, ◌*◌, ◌^◌, ◌<◌, ◌≤◌, List, [], ◌∷◌, length, get_or, ℤ, pos, negsuc, ◌+ℤ◌, ap, arith, w32, SFits}
 use lib.IntN.{sub_ℕ}
 use lib.Signed.{mag}
 use Rattle.std.specs.List.{AllByRecursion}
@@ -19,8 +19,7 @@ pub noise-laws : (p : ℕ → ℕ) (cells : List ℤ) → Falls p → NoiseLaws 
 noise-laws p cells falls = record { none = noise-none p cells; more = noise-more p cells falls }
 
 mag-sub : (a b : ℕ) → mag (sub_ℕ a b) ≤ a + b
-mag-sub a b =
-    elim (ltb a b) as (λ t. mag (cond t (negsuc (b - suc a)) (pos (a - b))) ≤ a + b) [ true ↦ omega arith | false ↦ omega arith ]
+mag-sub a b = grind arith
 
 mag-add : (a b : ℤ) → mag (a +ℤ b) ≤ mag a + mag b + 1
 mag-add (pos a) (pos b) = omega arith
@@ -35,14 +34,9 @@ cell-small (c ∷ cells) fits (suc i) = cell-small cells fits.1 i
 
 sum-small : (cells : List ℤ) → AllByRecursion (SFits w32) cells → (ts : List ℕ) → mag (sum_of cells ts) ≤ 2 ^ 31 * length ts
 sum-small cells fits [] = omega arith
-sum-small cells fits (t ∷ ts) =
-    let one : mag (cell_of cells t) < 2 ^ 31 = cell-small cells fits _ in
-    let others : mag (sum_of cells ts) ≤ 2 ^ 31 * length ts = sum-small cells fits ts in
-    omega (arith, mag-add (cell_of cells t) (sum_of cells ts))
+sum-small cells fits (t ∷ ts) = omega (arith, mag-add (cell_of cells t) (sum_of cells ts), cell-small cells fits (t - 1), sum-small cells fits ts)
 
 -- |N(t)| is at most 2 ^ 31 * t
 pub noise-small : (p : ℕ → ℕ) (cells : List ℤ) → AllByRecursion (SFits w32) cells → (t : ℕ) → mag (noise_of p cells t) ≤ 2 ^ 31 * t
 unfolding noise_of
-noise-small p cells fits t =
-    let sum : mag (sum_of cells (cover p t)) ≤ 2 ^ 31 * length (cover p t) = sum-small cells fits (cover p t) in
-    omega (arith, cover-length p t)
+noise-small p cells fits t = omega (arith, sum-small cells fits (cover p t), cover-length p t)

@@ -1,116 +1,98 @@
--- All classes: a row, its releases and its published counts, class after class.
-use Rattle.std.proofs.Common.{◌≡◌, ℕ, zero, suc, ◌+◌, ◌<◌, ◌≤◌, ◌≢◌, List, [], ◌∷◌, ◌++◌, map, length, get_or, take, set, replicate, ℤ, pos, refl, ap, ◌∙◌, ⊎_elim, arith}
-use Rattle.std.proofs.lemmas.List.{get_or-set_same, get_or-set_other, get_or-map, get_or-take, length-map, length-take-le, map_more, map_push, set_past, take_more, take_more_set, take-replicate}
-use Rattle.std.proofs.lemmas.Bool.{cases_eq, cases_lt}
+-- All classes: with no step taken, and a row taken, class after class.
+use Rattle.std.proofs.Common.{◌≡◌, ℕ, suc, ◌+◌, ◌<◌, ◌≤◌, List, [], ◌∷◌, ◌++◌, map, length, get_or, take, drop, set, replicate, ℤ, pos, sym, refl, ap, ◌∙◌, append_assoc, append-nil, add-one, arith}
+use Rattle.std.specs.List.{All}
+use Rattle.std.proofs.lemmas.List.{drop_more, drop-set-lt, map_push, take_more_set, drop_all, take_all}
+use Rattle.std.proofs.lemmas.List.Elements.{All-head, All-push, All-rest, All-same, All-tail}
+use Rattle.finisher.specs.Finishers.{Says, after, finishes}
+use Rattle.tape.specs.Tapes.{undrawn}
 use Rattle.runs.specs.Model as model
-use Rattle.runs.specs.Model.{advance, all_advanced, all_published, release}
+use Rattle.runs.specs.Model.{advance, all_advanced, release, says_after}
 use Rattle.station.specs.declared.table.Lane.{Lane}
-use Rattle.station.specs.Lanes.{lane_of, lanes_of, Bounded, no_lane, AllBounded}
-
-pub lanes-long : (classes steps : ℕ) (lanes : List Lane) → classes ≤ length lanes → length (lanes_of classes steps lanes) ≡ classes
-lanes-long classes steps lanes h = length-map (take classes lanes) (lane_of steps) ∙ length-take-le classes lanes h
-
--- the classes after one more was written
-lanes-more-set : (lanes : List Lane) (i steps : ℕ) (lane : Lane) → i < length lanes
-    → lanes_of (i + 1) steps (set lanes i lane) ≡ lanes_of i steps lanes ++ lane_of steps lane ∷ []
-lanes-more-set lanes i steps lane h = ap (map (lane_of steps)) (take_more_set lanes i lane h) ∙ map_push (lane_of steps) (take i lanes) lane
-
-advance-push : (back : ℕ) (lanes : List model.Lane) (row : List ℕ) (cells : List ℤ) (lane : model.Lane) (count : ℕ) (cell : ℤ)
-    → length lanes ≡ length row → length lanes ≡ length cells
-    → all_advanced back (lanes ++ lane ∷ []) (row ++ count ∷ []) (cells ++ cell ∷ []) ≡ all_advanced back lanes row cells ++ advance back lane count cell ∷ []
-advance-push back [] [] [] lane count cell p q = refl
-advance-push back [] [] (z ∷ cells) lane count cell p q = absurd (omega arith)
-advance-push back [] (n ∷ row) cells lane count cell p q = absurd (omega arith)
-advance-push back (x ∷ lanes) [] cells lane count cell p q = absurd (omega arith)
-advance-push back (x ∷ lanes) (n ∷ row) [] lane count cell p q = absurd (omega arith)
-advance-push back (x ∷ lanes) (n ∷ row) (z ∷ cells) lane count cell p q =
-    ap (λ (more : List model.Lane). advance back x n z ∷ more) (advance-push back lanes row cells lane count cell (omega arith) (omega arith))
-
-pub advance-more : (old new : List Lane) (row : List ℕ) (cells : List ℤ) (steps back i : ℕ) (lane : Lane)
-    → i < length old → length new ≡ length old → i < length row → i < length cells
-    → lanes_of i (steps + 1) new ≡ all_advanced back (lanes_of i steps old) (take i row) (take i cells)
-    → lane_of (steps + 1) lane ≡ advance back (lane_of steps (get_or old i no_lane)) (get_or row i 0) (get_or cells i (pos 0))
-    → lanes_of (i + 1) (steps + 1) (set new i lane) ≡ all_advanced back (lanes_of (i + 1) steps old) (take (i + 1) row) (take (i + 1) cells)
-advance-more old new row cells steps back i lane a b c d front here =
-    let made : lanes_of (i + 1) (steps + 1) (set new i lane) ≡ lanes_of i (steps + 1) new ++ lane_of (steps + 1) lane ∷ [] = lanes-more-set new i (steps + 1) lane (omega arith) in
-    let olds : lanes_of (i + 1) steps old ≡ lanes_of i steps old ++ lane_of steps (get_or old i no_lane) ∷ [] = map_more (lane_of steps) old i no_lane a in
-    let rows : take (i + 1) row ≡ take i row ++ get_or row i 0 ∷ [] = take_more row i 0 c in
-    let cellss : take (i + 1) cells ≡ take i cells ++ get_or cells i (pos 0) ∷ [] = take_more cells i (pos 0) d in
-    let long : length (lanes_of i steps old) ≡ i = lanes-long i steps old (omega arith) in
-    let wide : length (take i row) ≡ i = length-take-le i row (omega arith) in
-    let deep : length (take i cells) ≡ i = length-take-le i cells (omega arith) in
-    let push = advance-push back (lanes_of i steps old) (take i row) (take i cells) (lane_of steps (get_or old i no_lane)) (get_or row i 0) (get_or cells i (pos 0)) (omega arith) (omega arith) in
-    rw (made, olds, rows, cellss, push) cc
-
-publish-push : (lanes : List model.Lane) (counts : List ℤ) (lane : model.Lane) (z : ℤ) → length lanes ≡ length counts
-    → all_published (lanes ++ lane ∷ []) (counts ++ z ∷ []) ≡ all_published lanes counts ++ record { count = lane.count; noise = lane.noise; published = z } ∷ []
-publish-push [] [] lane z p = refl
-publish-push [] (n ∷ counts) lane z p = absurd (omega arith)
-publish-push (x ∷ lanes) [] lane z p = absurd (omega arith)
-publish-push (x ∷ lanes) (n ∷ counts) lane z p =
-    ap (λ (more : List model.Lane). record { count = x.count; noise = x.noise; published = n } ∷ more) (publish-push lanes counts lane z (omega arith))
-
-pub publish-more : (old new : List Lane) (counts : List ℤ) (steps i : ℕ) (lane : Lane)
-    → i < length old → length new ≡ length old → i < length counts
-    → lanes_of i steps new ≡ all_published (lanes_of i steps old) (take i counts)
-    → lane.count ≡ (get_or old i no_lane).count → lane.noise ≡ (get_or old i no_lane).noise → lane.published ≡ get_or counts i (pos 0)
-    → lanes_of (i + 1) steps (set new i lane) ≡ all_published (lanes_of (i + 1) steps old) (take (i + 1) counts)
-publish-more old new counts steps i lane a b c front count noise published =
-    let made : lanes_of (i + 1) steps (set new i lane) ≡ lanes_of i steps new ++ lane_of steps lane ∷ [] = lanes-more-set new i steps lane (omega arith) in
-    let olds : lanes_of (i + 1) steps old ≡ lanes_of i steps old ++ lane_of steps (get_or old i no_lane) ∷ [] = map_more (lane_of steps) old i no_lane a in
-    let answers : take (i + 1) counts ≡ take i counts ++ get_or counts i (pos 0) ∷ [] = take_more counts i (pos 0) c in
-    let long : length (lanes_of i steps old) ≡ i = lanes-long i steps old (omega arith) in
-    let wide : length (take i counts) ≡ i = length-take-le i counts (omega arith) in
-    let push = publish-push (lanes_of i steps old) (take i counts) (lane_of steps (get_or old i no_lane)) (get_or counts i (pos 0)) (omega arith) in
-    rw (made, olds, answers, push) cc
-
-pub release-more : (lanes : List Lane) (releases : List ℤ) (steps i : ℕ) (z : ℤ) → i < length lanes → i < length releases
-    → take i releases ≡ map release (lanes_of i steps lanes) → z ≡ release (lane_of steps (get_or lanes i no_lane))
-    → take (i + 1) (set releases i z) ≡ map release (lanes_of (i + 1) steps lanes)
-release-more lanes releases steps i z a b front here =
-    let made : take (i + 1) (set releases i z) ≡ take i releases ++ z ∷ [] = take_more_set releases i z b in
-    let more : lanes_of (i + 1) steps lanes ≡ lanes_of i steps lanes ++ lane_of steps (get_or lanes i no_lane) ∷ [] = map_more (lane_of steps) lanes i no_lane a in
-    let push : map release (lanes_of i steps lanes ++ lane_of steps (get_or lanes i no_lane) ∷ []) ≡ map release (lanes_of i steps lanes) ++ release (lane_of steps (get_or lanes i no_lane)) ∷ [] = map_push release (lanes_of i steps lanes) (lane_of steps (get_or lanes i no_lane)) in
-    rw (made, more, push) cc
-
-pub lane-at : (lanes : List Lane) (classes steps class : ℕ) → class < classes → classes ≤ length lanes
-    → get_or (lanes_of classes steps lanes) class model.empty_lane ≡ lane_of steps (get_or lanes class no_lane)
-lane-at lanes classes steps class h k =
-    let long : length (take classes lanes) ≡ classes = length-take-le classes lanes k in
-    get_or-map (lane_of steps) (take classes lanes) class no_lane model.empty_lane (omega arith) ∙ ap (lane_of steps) (get_or-take classes lanes class no_lane h)
-
--- Limits
-
-pub bounded-set : (steps : ℕ) (lanes : List Lane) (i : ℕ) (lane : Lane) → Bounded steps lane → AllBounded steps lanes → AllBounded steps (set lanes i lane)
-bounded-set steps lanes i lane here all class =
-    ⊎_elim
-    (λ (room : i < length lanes).
-    ⊎_elim
-    (λ (e : class ≡ i).
-    let at_i : Bounded steps (get_or (set lanes i lane) i no_lane) = rw (get_or-set_same lanes i lane no_lane room) here in
-    rw e at_i)
-    (λ (other : class ≢ i). rw (get_or-set_other lanes i class lane no_lane other) (all class))
-    (cases_eq class i))
-    (λ (past : length lanes ≤ i). rw (set_past lanes i lane past) (all class))
-    (cases_lt i (length lanes))
-
-pub bounded-same : (steps : ℕ) (lane other : Lane) → lane ≡ other → Bounded steps other → Bounded steps lane
-bounded-same steps lane other e h = rw e h
-
--- the classes from i on are as they were
-abbrev pub Rest : ℕ → List Lane → List Lane → Type 0
-Rest i old new = (k : ℕ) → i ≤ k → get_or new k no_lane ≡ get_or old k no_lane
-
-pub rest_more : (old new : List Lane) (i : ℕ) (lane : Lane) → Rest i old new → Rest (i + 1) old (set new i lane)
-rest_more old new i lane rest k h =
-    let other : k ≢ i = omega arith in get_or-set_other new i k lane no_lane other ∙ rest k (omega arith)
+use Rattle.station.specs.Lanes.{advanced_by, lane_of, lanes_of, published_by}
 
 -- Classes with no step taken
 
-map-replicate : (n : ℕ) (f : Lane → model.Lane) (lane : Lane) → map f (replicate n lane) ≡ replicate n (f lane)
-map-replicate zero f lane = refl
-map-replicate (suc n) f lane = ap (λ (more : List model.Lane). f lane ∷ more) (map-replicate n f lane)
+abbrev pub Fresh : Lane → Type 0
+Fresh lane = lane_of lane ≡ model.empty_lane
 
-pub empties : (classes all : ℕ) (lane : Lane) → classes ≤ all → lane_of 0 lane ≡ model.empty_lane → lanes_of classes 0 (replicate all lane) ≡ replicate classes model.empty_lane
-empties classes all lane h e =
-    ap (map (lane_of 0)) (take-replicate classes all lane h) ∙ map-replicate classes (lane_of 0) lane ∙ ap (replicate classes) e
+pub fresh-lanes : (lanes : List Lane) → All Fresh lanes → lanes_of lanes ≡ replicate (length lanes) model.empty_lane
+fresh-lanes [] all = refl
+fresh-lanes (lane ∷ lanes) all =
+    let here : lane_of lane ≡ model.empty_lane = All-head Fresh lane lanes all in
+    let more : lanes_of lanes ≡ replicate (length lanes) model.empty_lane = fresh-lanes lanes (All-tail Fresh lane lanes all) in
+    cc
+
+-- A row
+
+-- the classes from one on, with the row and the next cells taken
+abbrev pub ahead : ℕ → ℕ → List Lane → List ℕ → List ℤ → List model.Lane
+ahead back class lanes row cells = all_advanced back (lanes_of (drop class lanes)) (drop class row) cells
+
+ahead-more : (back class : ℕ) (lanes : List Lane) (row : List ℕ) (cells : List ℤ) (none : Lane) → class < length lanes → class < length row → 0 < length cells
+    → ahead back class lanes row cells
+    ≡ advance back (lane_of (get_or lanes class none)) (get_or row class 0) (get_or cells 0 (pos 0)) ∷ ahead back (class + 1) lanes row (undrawn cells)
+ahead-more back class lanes row [] none a b c = absurd (omega arith)
+ahead-more back class lanes row (z ∷ cells) none a b c = rw (drop_more lanes class none a, drop_more row class 0 b) refl
+
+-- the classes below one are published, and the others still to come, as all of them and the finisher will be
+abbrev pub Comes : List model.Lane → Says → Says → List Lane → ℕ → List model.Lane → Type 0
+Comes whole ended says lanes class rest =
+    (whole ≡ lanes_of (take class lanes) ++ published_by says class rest) × (ended ≡ says_after says class (map release rest))
+
+pub comes-more : (whole : List model.Lane) (ended says later : Says) (back class : ℕ) (lanes : List Lane) (row : List ℕ) (cells left : List ℤ) (taken : model.Lane) (none new : Lane)
+    → class < length lanes → class < length row → 0 < length cells
+    → taken ≡ advance back (lane_of (get_or lanes class none)) (get_or row class 0) (get_or cells 0 (pos 0))
+    → new.count ≡ taken.count → new.noise.items ≡ taken.noise → new.published ≡ says [] class (release taken)
+    → later ≡ after (finishes class (release taken)) says → left ≡ undrawn cells
+    → Comes whole ended says lanes class (ahead back class lanes row cells)
+    → Comes whole ended later (set lanes class new) (class + 1) (ahead back (class + 1) (set lanes class new) row left)
+comes-more whole ended says later back class lanes row cells left taken none new a b c e count noise published saying moved h =
+    let peel : ahead back class lanes row cells ≡ taken ∷ ahead back (class + 1) lanes row (undrawn cells) =
+    ahead-more back class lanes row cells none a b c ∙ ap (λ (x : model.Lane). x ∷ ahead back (class + 1) lanes row (undrawn cells)) (sym e) in
+    let done : lanes_of (take (class + 1) (set lanes class new)) ≡ lanes_of (take class lanes) ++ lane_of new ∷ [] =
+    ap lanes_of (take_more_set lanes class new a) ∙ map_push lane_of (take class lanes) new in
+    let rest : drop (class + 1) (set lanes class new) ≡ drop (class + 1) lanes = drop-set-lt (class + 1) lanes class new (omega arith) in
+    let here : lane_of new ≡ record { count = taken.count; noise = taken.noise; published = says [] class (release taken) } = cc in
+    let next : class + 1 ≡ suc class = add-one class in (
+      h.0 ∙ rw (peel, done, rest, here, saying, moved, append_assoc, next) refl,
+      h.1 ∙ rw (peel, rest, saying, moved, next) refl,
+    )
+
+-- the cells past the last class do not matter
+advanced-taken : (back : ℕ) (lanes : List model.Lane) (row : List ℕ) (cells : List ℤ) → all_advanced back lanes row (take (length row) cells) ≡ all_advanced back lanes row cells
+advanced-taken back [] row cells = refl
+advanced-taken back (lane ∷ lanes) [] cells = refl
+advanced-taken back (lane ∷ lanes) (count ∷ row) [] = refl
+advanced-taken back (lane ∷ lanes) (count ∷ row) (z ∷ cells) = ap (λ (more : List model.Lane). advance back lane count z ∷ more) (advanced-taken back lanes row cells)
+
+pub comes-all : (begun says : Says) (back class : ℕ) (old lanes : List Lane) (row : List ℕ) (cells left : List ℤ) → length lanes ≤ class
+    → Comes (published_by begun 0 (all_advanced back (lanes_of old) row cells)) (says_after begun 0 (map release (all_advanced back (lanes_of old) row cells))) says lanes class (ahead back class lanes row left)
+    → (lanes_of lanes ≡ published_by begun 0 (advanced_by back old row cells))
+    × (says ≡ says_after begun 0 (map release (advanced_by back old row cells)))
+comes-all begun says back class old lanes row cells left h e =
+    let none : drop class lanes ≡ [] = drop_all class lanes h in
+    let whole : take class lanes ≡ lanes = take_all class lanes h in (
+      rw (advanced-taken back (lanes_of old) row cells) (sym (rw (none, whole, append-nil) at e.0)),
+      rw (advanced-taken back (lanes_of old) row cells) (sym (rw none at e.1)),
+    )
+
+-- so many steps
+abbrev pub Stepped : ℕ → Lane → Type 0
+Stepped steps lane = length lane.noise.items ≡ steps
+
+-- the classes that have taken the row have one step more than the others
+abbrev pub Uneven : ℕ → ℕ → List Lane → Type 0
+Uneven steps class lanes = All (Stepped (steps + 1)) (take class lanes) × All (Stepped steps) (drop class lanes)
+
+pub uneven-at : (steps class : ℕ) (lanes : List Lane) (lane : Lane) → class < length lanes → Uneven steps class lanes → length (get_or lanes class lane).noise.items ≡ steps
+uneven-at steps class lanes lane a h =
+    All-head (Stepped steps) _ _ (All-same (Stepped steps) _ _ (sym (drop_more lanes class lane a)) h.1)
+
+pub uneven-all : (steps class : ℕ) (lanes : List Lane) → length lanes ≤ class → Uneven steps class lanes → All (Stepped (steps + 1)) lanes
+uneven-all steps class lanes h all = All-same (Stepped (steps + 1)) _ _ (sym (take_all class lanes h)) all.0
+
+pub uneven-more : (steps class : ℕ) (lanes : List Lane) (lane new : Lane) → class < length lanes → Stepped (steps + 1) new → Uneven steps class lanes → Uneven steps (class + 1) (set lanes class new)
+uneven-more steps class lanes lane new a here h = (
+  All-same (Stepped (steps + 1)) _ _ (take_more_set lanes class new a) (All-push (Stepped (steps + 1)) (take class lanes) new h.0 here),
+  All-same (Stepped steps) _ _ (drop-set-lt (class + 1) lanes class new (omega arith)) (All-rest (Stepped steps) _ _ _ (drop_more lanes class lane a) h.1),
+)

@@ -1,5 +1,5 @@
 -- What a station's calls answer, as the model has it.
-use Rattle.std.specs.Prelude.{◌≡◌, ℕ, ◌<◌, ◌≤◌, true, false, cond, not, ◌&&◌, List, [], ◌∷◌, length, ℤ, Some, None, Ok, Err, Option, Result, nat_le, nat_lt}
+use Rattle.std.specs.Prelude.{◌≡◌, ℕ, ◌<◌, ◌≤◌, true, false, cond, not, ◌&&◌, List, [], ◌∷◌, length, ℤ, Some, None, Ok, Err, Option, Result, nat_le, nat_lt, IfOk}
 use Rattle.fault.specs.declared.Fault.{Fault}
 use Rattle.fault.specs.Told.{Told, told}
 use Rattle.fault.specs.declared.Cause.{Cause}
@@ -10,6 +10,9 @@ use Rattle.runs.specs.Model.{tell, first_told, is_open, epoch_of, first_above}
 use Rattle.station.specs.declared.Balance.{Balance}
 use Rattle.station.specs.declared.Closed.{Closed}
 use Rattle.station.specs.declared.hold.Hold.{Hold}
+use Rattle.station.specs.declared.Lawful.{Lawful}
+use Rattle.station.specs.declared.Setting.{Setting}
+use Rattle.station.specs.View.{lawful_of, setting_of}
 
 -- a refusal by the station
 abbrev pub station_fault : Cause → Fault
@@ -52,6 +55,11 @@ class_count_of classes = cond (nat_le 1 classes && nat_le classes 8) (Ok classes
 abbrev pub setting_refusal : model.Setting → Option Told
 setting_refusal s =
     first_told ((not (nat_le 1 s.classes && nat_le s.classes 8), tell 1 2 s.classes) ∷ (nat_lt 1000000 s.grant, tell 1 3 s.grant) ∷ [])
+
+-- a setting made lawful, or refused
+abbrev pub IsLawfulOf : Setting → Result Lawful Fault → Type 0
+IsLawfulOf setting result =
+    (refused_by result ≡ setting_refusal (setting_of setting)) × IfOk result (λ lawful. lawful_of lawful ≡ setting_of setting)
 
 -- what an open and a step look at
 abbrev pub MayOpen : model.Station → ℕ → Type 0

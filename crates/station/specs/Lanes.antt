@@ -1,29 +1,21 @@
--- The classes of a station, as the model has them, and the limits that their numbers keep.
-use Rattle.std.specs.Prelude.{ℕ, suc, ◌*◌, ◌<◌, ◌≤◌, List, [], map, take, pos, slice_index_or}
-use Rattle.std.specs.Int.Signed.{mag}
+-- The classes of a station, as the model has them.
+use Rattle.std.specs.Prelude.{ℕ, List, map, length, take, ℤ}
+use Rattle.finisher.specs.Finishers.{Says}
 use Rattle.runs.specs.Model as model
 use Rattle.station.specs.declared.table.Lane.{Lane}
 
--- a class after a number of steps
-abbrev pub lane_of : ℕ → Lane → model.Lane
-lane_of steps lane = record { count = lane.count; noise = take steps lane.noise; published = lane.published }
+-- a class
+abbrev pub lane_of : Lane → model.Lane
+lane_of lane = record { count = lane.count; noise = lane.noise.items; published = lane.published }
 
--- the first classes
-abbrev pub lanes_of : ℕ → ℕ → List Lane → List model.Lane
-lanes_of classes steps lanes = map (lane_of steps) (take classes lanes)
+-- all of them
+abbrev pub lanes_of : List Lane → List model.Lane
+lanes_of lanes = map lane_of lanes
 
--- what the noise of step k + 1 stays below, with or without its sign
-abbrev pub noise_limit : ℕ → ℕ
-noise_limit k = 2147483648 * suc k
+-- with a row and a cell for each of its counts taken
+abbrev pub advanced_by : ℕ → List Lane → List ℕ → List ℤ → List model.Lane
+advanced_by back lanes row cells = model.all_advanced back (lanes_of lanes) row (take (length row) cells)
 
--- after a number of steps
-abbrev pub Bounded : ℕ → Lane → Type 0
-Bounded steps lane = (lane.count ≤ 1000 * steps) × ((k : ℕ) → mag (slice_index_or lane.noise k (pos 0)) < noise_limit k)
-
--- what stands past the last class
-abbrev pub no_lane : Lane
-no_lane = record { count = 0; noise = []; published = pos 0 }
-
--- each class
-abbrev pub AllBounded : ℕ → List Lane → Type 0
-AllBounded steps lanes = (class : ℕ) → Bounded steps (slice_index_or lanes class no_lane)
+-- classes from one on, with what a finisher that says so answers to their releases
+abbrev pub published_by : Says → ℕ → List model.Lane → List model.Lane
+published_by says class lanes = model.all_published lanes (model.answers_to says class (map model.release lanes))

@@ -1,18 +1,17 @@
--- What a station's phase says.
-use Rattle.std.specs.Prelude.{ℕ}
+-- What a station's phase says: the open epoch, or none.
+use Rattle.std.specs.Prelude.{ℕ, Some, None, Option}
 use Rattle.runs.specs.Model as model
-use Rattle.station.specs.declared.Phase.{Phase}
-use Rattle.station.specs.declared.Phase.TheVariants.{Idle, Running}
+use Rattle.station.specs.declared.Epoch.{Epoch}
 
-abbrev pub phase_of : Phase → model.Phase
-phase_of Idle = model.idle
-phase_of (Running horizon units) = model.running horizon units
+abbrev pub phase_of : Option Epoch → model.Phase
+phase_of None = model.idle
+phase_of (Some epoch) = model.running epoch.horizon epoch.units
 
 -- the open epoch's horizon and units; 0 where none is open
-abbrev pub horizon_in : Phase → ℕ
-horizon_in Idle = 0
-horizon_in (Running horizon units) = horizon
+abbrev pub horizon_in : Option Epoch → ℕ
+horizon_in None = 0
+horizon_in (Some epoch) = epoch.horizon
 
-abbrev pub units_in : Phase → ℕ
-units_in Idle = 0
-units_in (Running horizon units) = units
+abbrev pub units_in : Option Epoch → ℕ
+units_in None = 0
+units_in (Some epoch) = epoch.units

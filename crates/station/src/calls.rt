@@ -5,27 +5,17 @@ ghost use Rattle.fault.specs.Told.{told};
 ghost use Rattle.runs.specs.Model.{answer, next, refusal, made, after_row, opens, steps as steps_by, closes, reads, balances};
 ghost use Rattle.runs.specs.Law.{EachRun, PairedRuns};
 ghost use Rattle.station.specs.Examples.{WorkedExamples};
-ghost use Rattle.station.specs.Answers.{opened_as, stepped_as, closed_as, HandedBack, read_as, balance_as, station_fault, MayOpen, MayStep};
+ghost use Rattle.station.specs.Answers.{opened_as, stepped_as, closed_as, HandedBack, read_as, balance_as, MayOpen, MayStep};
 ghost use Rattle.station.specs.View.{lawful_of, making_of, view_of};
 
 use crate::hold::Hold;
-use crate::row::{draw_row, finish_row, first_over};
+use crate::row::first_over;
 use crate::table::Table;
-use crate::{Balance, Closed, Lawful, Phase, Station};
+use crate::{Balance, Closed, Epoch, Lawful, Station};
 use fault::{Cause, Fault, Layer};
 use finisher::Finisher;
 use plan::{HORIZON, Plan};
 use tape::Tape;
-
-/// A refusal by the station.
-fn refuse(cause: Cause) -> Fault
-    ensures { result ≡ station_fault cause }
-{
-    Fault {
-        cause,
-        layer: Layer::Station,
-    }
-}
 
 impl<P: Plan, T: Tape, F: Finisher> Station<P, T, F> {
     /// A station that is idle. What holds of its every run from here on, and of every two runs side by side, is said here.
@@ -47,7 +37,7 @@ impl<P: Plan, T: Tape, F: Finisher> Station<P, T, F> {
             finisher,
             account,
             serial: 0,
-            phase: Phase::Idle,
+            phase: None,
             table: Table::new(classes),
         }
     }
@@ -59,12 +49,12 @@ impl<P: Plan, T: Tape, F: Finisher> Station<P, T, F> {
         ensures refused { is_ok result ≡ false → self.new ≡ self.old }
     {
         self.look_open(horizon)?;
-        let units = self.plan.depth(horizon) as u32;
+        let units = u32::from(self.plan.depth(horizon));
         self.account.hold(units)?;
         self.finisher.begin();
         self.serial += 1;
-        self.table = Table::new(self.table.classes());
-        self.phase = Phase::Running { horizon, units };
+        self.table.clear();
+        self.phase = Some(Epoch { horizon, units });
         Ok(Hold::new(self.number, self.serial))
     }
 
@@ -88,18 +78,18 @@ impl<P: Plan, T: Tape, F: Finisher> Station<P, T, F> {
         ensures handed { HandedBack hold result }
     {
         match (self.phase, self.names(&hold)) {
-            (Phase::Running { units, .. }, true) => {
+            (Some(Epoch { units, .. }), true) => {
                 let _ = hold.write_off();
                 let steps = self.table.steps();
-                let spent = units.min(self.plan.depth(steps) as u32);
+                let spent = units.min(u32::from(self.plan.depth(steps)));
                 self.account.settle(units, spent);
-                self.phase = Phase::Idle;
+                self.phase = None;
                 Ok(Closed {
                     steps,
                     units: spent,
                 })
             }
-            _ => Err((refuse(Cause::WrongHold(hold.serial())), hold)),
+            _ => Err((Cause::WrongHold(hold.serial()).by(Layer::Station), hold)),
         }
     }
 
@@ -115,60 +105,49 @@ impl<P: Plan, T: Tape, F: Finisher> Station<P, T, F> {
         requires { MayStep (view_of P.back T.cells F.says self.old) row.now }
         ensures { view_of P.back T.cells F.says self.new ≡ after_row (view_of P.back T.cells F.says self.old) row.now }
     {
-        let back = self.plan.back_step(self.table.steps() + 1) as usize;
-        let classes = self.table.classes();
-        let cells = draw_row(&mut self.tape, classes);
-        self.table.advance(back, row, &cells);
-        let releases = self.table.releases();
-        let counts = finish_row(&mut self.finisher, classes, &releases);
-        self.table.publish(&counts);
+        let back = usize::from(self.plan.back_step(self.table.steps() + 1));
+        self.table
+            .take_row(back, row, &mut self.tape, &mut self.finisher);
     }
 
     /// Whether an epoch of `horizon` steps can be opened, but for its units.
     fn look_open(&self, horizon: u16) -> Result<(), Fault>
         ensures { MatchResult result (λ _. MayOpen (view_of P.back T.cells F.says self.now) horizon) (λ f. refusal (view_of P.back T.cells F.says self.now) (opens horizon) ≡ Some (told f)) }
     {
-        match self.phase {
-            Phase::Running { .. } => Err(refuse(Cause::AlreadyOpen(self.serial))),
-            Phase::Idle => {
-                if horizon < 1 || horizon > HORIZON {
-                    Err(refuse(Cause::Horizon(horizon)))
-                } else if self.serial == u16::MAX {
-                    Err(refuse(Cause::SerialsUsedUp))
-                } else {
-                    Ok(())
-                }
-            }
+        let None = self.phase else {
+            return Err(Cause::AlreadyOpen(self.serial).by(Layer::Station));
+        };
+        if horizon < 1 || horizon > HORIZON {
+            return Err(Cause::Horizon(horizon).by(Layer::Station));
         }
+        if self.serial == u16::MAX {
+            return Err(Cause::SerialsUsedUp.by(Layer::Station));
+        }
+        Ok(())
     }
 
     /// Whether a row can be taken.
     fn look_step(&self, row: &[u16]) -> Result<(), Fault>
         ensures { MatchResult result (λ _. MayStep (view_of P.back T.cells F.says self.now) row.now) (λ f. refusal (view_of P.back T.cells F.says self.now) (steps_by row.now) ≡ Some (told f)) }
     {
-        match self.phase {
-            Phase::Idle => Err(refuse(Cause::NoEpoch)),
-            Phase::Running { horizon, .. } => {
-                let classes = self.table.classes();
-                if row.len() != classes {
-                    return Err(refuse(Cause::RowLength(row.len())));
-                }
-                let over = first_over(row);
-                let left = self.tape.left();
-                if over < classes {
-                    Err(refuse(Cause::CountTooLarge(over)))
-                } else if self.table.steps() >= horizon {
-                    Err(refuse(Cause::EpochFull(horizon)))
-                } else if left < classes {
-                    Err(Fault {
-                        cause: Cause::TapeShort(left),
-                        layer: Layer::Tape,
-                    })
-                } else {
-                    Ok(())
-                }
-            }
+        let Some(Epoch { horizon, .. }) = self.phase else {
+            return Err(Cause::NoEpoch.by(Layer::Station));
+        };
+        let classes = self.table.classes();
+        if row.len() != classes {
+            return Err(Cause::RowLength(row.len()).by(Layer::Station));
         }
+        if let Some(class) = first_over(row) {
+            return Err(Cause::CountTooLarge(class).by(Layer::Station));
+        }
+        if self.table.steps() >= horizon {
+            return Err(Cause::EpochFull(horizon).by(Layer::Station));
+        }
+        let left = self.tape.left();
+        if left < classes {
+            return Err(Cause::TapeShort(left).by(Layer::Tape));
+        }
+        Ok(())
     }
 
     /// The newest published count of a class, in the newest epoch.
@@ -176,9 +155,9 @@ impl<P: Plan, T: Tape, F: Finisher> Station<P, T, F> {
         ensures { read_as result ≡ answer (view_of P.back T.cells F.says self.now) (reads class) }
     {
         if class >= self.table.classes() {
-            Err(refuse(Cause::NoSuchClass(class)))
+            Err(Cause::NoSuchClass(class).by(Layer::Station))
         } else if self.table.steps() == 0 {
-            Err(refuse(Cause::NothingPublished))
+            Err(Cause::NothingPublished.by(Layer::Station))
         } else {
             Ok(self.table.published(class))
         }

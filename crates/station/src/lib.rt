@@ -18,7 +18,7 @@ mod table;
 pub use hold::Hold;
 
 /// What a station is made with: its number, its number of classes and the units that it is granted.
-#[derive(Clone, Copy, Debug)]
+#[derive(Clone, Copy, Debug, PartialEq, Eq)]
 pub struct Setting {
     pub number: u32,
     pub classes: u16,
@@ -36,28 +36,28 @@ pub struct Lawful {
 }
 
 /// What a close answers: the steps taken and the units spent.
-#[derive(Clone, Copy, Debug)]
+#[derive(Clone, Copy, Debug, PartialEq, Eq)]
 pub struct Closed {
     pub steps: u16,
     pub units: u32,
 }
 
 /// What a station's account has.
-#[derive(Clone, Copy, Debug)]
+#[derive(Clone, Copy, Debug, PartialEq, Eq)]
 pub struct Balance {
     pub grant: u32,
     pub spent: u32,
     pub held: u32,
 }
 
-/// Idle, or with one epoch open, by its horizon and the units that it holds.
+/// An open epoch, by its horizon and the units that it holds.
 #[derive(Clone, Copy)]
-enum Phase {
-    Idle,
-    Running { horizon: u16, units: u32 },
+struct Epoch {
+    horizon: u16,
+    units: u32,
 }
 
-/// A station over a plan, a tape and a finisher.
+/// A station over a plan, a tape and a finisher: idle, or with one epoch open.
 #[derive(Drop)]
 pub struct Station<P, T, F> {
     number: u32,
@@ -66,7 +66,7 @@ pub struct Station<P, T, F> {
     finisher: F,
     account: Account,
     serial: u16,
-    phase: Phase,
+    phase: Option<Epoch>,
     table: Table,
     ghost covered: { units_in phase ≤ account.held },
     ghost limited: { horizon_in phase ≤ 1024 },

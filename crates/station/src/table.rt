@@ -1,124 +1,122 @@
 //! The classes of a station: what each has counted, its noise at every step, and what was published last.
 
-ghost use Rattle.std.specs.Prelude.{◌≡◌, ℕ, ◌+◌, ◌<◌, ◌≤◌, map, length, take, replicate, slice_index_or};
-ghost use Rattle.std.specs.List.{AllByRecursion};
-ghost use Rattle.runs.specs.Model.{advance, all_advanced, empty_lane, noise_after, all_published, release};
-ghost use Rattle.station.specs.Lanes.{lane_of, lanes_of, Bounded, AllBounded};
+ghost use Rattle.std.specs.Prelude.{◌≡◌, ◌+◌, ◌*◌, ◌<◌, ◌≤◌, map, length, drop, replicate, slice_index_or};
+ghost use Rattle.std.specs.List.{All};
+ghost use Rattle.arrayvec.specs.ArrayVec.{array_vec_len};
+ghost use Rattle.runs.specs.Model.{advance, empty_lane, noise_after, release, says_after};
+ghost use Rattle.station.specs.Limits.{NoiseWithin};
 
-/// The most classes that a station has.
-pub(crate) const CLASSES: usize = 8;
+use arrayvec::ArrayVec;
+use finisher::{CLASSES, Finisher};
+use plan::MOST_STEPS;
+use tape::Tape;
 
-const STEPS: usize = 1024;
-
-/// What a class keeps: its noise of step 1 stands at place 0.
-#[derive(Clone, Copy)]
+/// What a class keeps: its true count, its noise of each step taken, and its newest published count.
+#[derive(Drop)]
 pub(crate) struct Lane {
     count: u32,
-    noise: [i64; STEPS],
+    noise: ArrayVec<i64, MOST_STEPS>,
     published: i64,
+    ghost few: { count ≤ 1000 * array_vec_len noise },
+    ghost near: { NoiseWithin noise.items },
 }
 
-impl Lane {
+impl Default for Lane {
+    ghost use Rattle.station.specs.Lanes.{lane_of};
+
+    ghost is_default = { λ lane. lane_of lane ≡ empty_lane };
+
+    // by hand: no derive goes over ghost fields
     /// A class with no step taken.
-    fn empty() -> Lane
-        ensures lane { lane_of 0 result ≡ empty_lane }
-        ensures bounded { Bounded 0 result }
-    {
+    fn default() -> Lane {
         Lane {
             count: 0,
-            noise: [0; STEPS],
+            noise: ArrayVec::new(),
             published: 0,
         }
     }
+}
 
-    /// Takes a count and a cell as the step after `steps`.
-    fn advance(&mut self, steps: usize, back: usize, count: u16, cell: i32)
-        requires room { steps < 1024 }
-        requires back { back ≤ steps }
+impl Lane {
+    ghost use Rattle.station.specs.Lanes.{lane_of};
+
+    /// Back to no step taken.
+    fn clear(&mut self)
+        ensures { lane_of self.new ≡ empty_lane }
+    {
+        self.count = 0;
+        self.noise.clear();
+        self.published = 0;
+    }
+
+    /// Takes a count and a cell as the next step.
+    fn advance(&mut self, back: usize, count: u16, cell: i32)
+        requires room { array_vec_len self.old.noise < 1024 }
+        requires back { back ≤ array_vec_len self.old.noise }
         requires small { count ≤ 1000 }
-        requires bounded { Bounded steps self.old }
-        ensures lane { lane_of (steps + 1) self.new ≡ advance back (lane_of steps self.old) count cell }
-        ensures bounded { Bounded (steps + 1) self.new }
+        ensures { lane_of self.new ≡ advance back (lane_of self.old) count cell }
     {
         let before = self.noise_at(back);
-        self.noise[steps] = cell as i64 + before;
-        self.count += count as u32;
+        self.noise.push(i64::from(cell) + before);
+        self.count += u32::from(count);
     }
 
     /// The noise of a step; 0 for step 0.
     fn noise_at(&self, step: usize) -> i64
-        requires { step ≤ 1024 }
-        ensures { result ≡ noise_after self.now.noise step }
+        requires { step ≤ array_vec_len self.now.noise }
+        ensures { result ≡ noise_after self.now.noise.items step }
     {
         if step > 0 { self.noise[step - 1] } else { 0 }
     }
 
     /// The true count with the noise of the newest step.
-    fn release(&self, steps: usize) -> i64
-        requires few { steps ≤ 1024 }
-        requires bounded { Bounded steps self.now }
-        ensures { result ≡ release (lane_of steps self.now) }
+    fn release(&self) -> i64
+        ensures { result ≡ release (lane_of self.now) }
     {
-        self.count as i64 + self.noise_at(steps)
-    }
-}
-
-/// Each class takes its count of the row and its cell as the step after `steps`.
-fn advance_all(lanes: &mut [Lane], steps: usize, back: usize, row: &[u16], cells: &[i32])
-    requires room { steps < 1024 }
-    requires back { back ≤ steps }
-    requires small { AllByRecursion (λ n. n ≤ 1000) row.now }
-    requires enough { (length row.now ≤ length lanes.old) × (length row.now ≤ length cells.now) }
-    requires bounded { AllBounded steps lanes.old }
-    ensures lanes { lanes_of (length row.now) (steps + 1) lanes.new ≡ all_advanced back (lanes_of (length row.now) steps lanes.old) row.now (take (length row.now) cells.now) }
-    ensures bounded { AllBounded (steps + 1) lanes.new }
-{
-    for class in 0..row.len() {
-        lanes[class].advance(steps, back, row[class], cells[class]);
-    }
-}
-
-/// Stores the published counts of the first classes.
-fn publish_all(lanes: &mut [Lane], classes: usize, counts: &[i64])
-    requires enough { (classes ≤ length lanes.old) × (classes ≤ length counts.now) }
-    ensures lanes { (steps : ℕ) → lanes_of classes steps lanes.new ≡ all_published (lanes_of classes steps lanes.old) (take classes counts.now) }
-    ensures bounded { (steps : ℕ) → AllBounded steps lanes.old → AllBounded steps lanes.new }
-{
-    for class in 0..classes {
-        lanes[class].published = counts[class];
+        i64::from(self.count) + self.noise_at(self.noise.len())
     }
 }
 
 /// The classes of a station, and the steps that they have taken.
 #[derive(Drop)]
 pub(crate) struct Table {
-    classes: usize,
+    lanes: ArrayVec<Lane, CLASSES>,
     steps: u16,
-    lanes: [Lane; CLASSES],
-    ghost some: { (1 ≤ classes) × (classes ≤ 8) },
+    ghost some: { (1 ≤ array_vec_len lanes) × (array_vec_len lanes ≤ 8) },
     ghost few: { steps ≤ 1024 },
-    ghost bounded: { AllBounded steps lanes },
+    ghost even: { All (λ lane. array_vec_len lane.noise ≡ steps) lanes.items },
 }
 
 impl Table {
-    /// A table with no step taken.
+    ghost use Rattle.station.specs.Lanes.{advanced_by, lanes_of, published_by};
+
+    /// A table of so many classes with no step taken.
     pub(crate) fn new(classes: usize) -> Table
         requires { (1 ≤ classes) × (classes ≤ 8) }
-        ensures numbers { (result.classes ≡ classes) × (result.steps ≡ 0) }
-        ensures lanes { lanes_of classes 0 result.lanes ≡ replicate classes empty_lane }
+        ensures numbers { (array_vec_len result.lanes ≡ classes) × (result.steps ≡ 0) }
+        ensures lanes { lanes_of result.lanes.items ≡ replicate classes empty_lane }
     {
-        Table {
-            classes,
-            steps: 0,
-            lanes: [Lane::empty(); CLASSES],
+        let mut lanes = ArrayVec::from(<[Lane; CLASSES]>::default());
+        lanes.truncate(classes);
+        Table { lanes, steps: 0 }
+    }
+
+    /// Back to no step taken.
+    pub(crate) fn clear(&mut self)
+        ensures numbers { (array_vec_len self.new.lanes ≡ array_vec_len self.old.lanes) × (self.new.steps ≡ 0) }
+        ensures lanes { lanes_of self.new.lanes.items ≡ replicate (array_vec_len self.old.lanes) empty_lane }
+    {
+        for lane in self.lanes.iter_mut() {
+            lane.clear();
         }
+        self.steps = 0;
     }
 
     /// The number of classes.
     pub(crate) fn classes(&self) -> usize
-        ensures { result ≡ self.now.classes }
+        ensures { result ≡ array_vec_len self.now.lanes }
     {
-        self.classes
+        self.lanes.len()
     }
 
     /// The steps taken.
@@ -130,41 +128,38 @@ impl Table {
 
     /// The newest published count of a class.
     pub(crate) fn published(&self, class: usize) -> i64
-        requires { class < self.now.classes }
-        ensures { result ≡ (slice_index_or (lanes_of self.now.classes self.now.steps self.now.lanes) class empty_lane).published }
+        requires { class < array_vec_len self.now.lanes }
+        ensures { result ≡ (slice_index_or (lanes_of self.now.lanes.items) class empty_lane).published }
     {
         self.lanes[class].published
     }
 
-    /// Takes a row, with a cell for each class.
-    pub(crate) fn advance(&mut self, back: usize, row: &[u16], cells: &[i32; CLASSES])
+    /// Takes a row: each class, class 0 first, its count and the next cell, and publishes what the finisher makes of its
+    /// release.
+    pub(crate) fn take_row<T: Tape, F: Finisher>(
+        &mut self,
+        back: usize,
+        row: &[u16],
+        tape: &mut T,
+        finisher: &mut F,
+    )
         requires room { self.old.steps < 1024 }
         requires back { back ≤ self.old.steps }
-        requires whole { length row.now ≡ self.old.classes }
-        requires small { AllByRecursion (λ n. n ≤ 1000) row.now }
-        ensures numbers { (self.new.classes ≡ self.old.classes) × (self.new.steps ≡ self.old.steps + 1) }
-        ensures lanes { lanes_of self.old.classes (self.old.steps + 1) self.new.lanes ≡ all_advanced back (lanes_of self.old.classes self.old.steps self.old.lanes) row.now (take self.old.classes cells.now) }
+        requires whole { length row.now ≡ array_vec_len self.old.lanes }
+        requires small { All (λ n. n ≤ 1000) row.now }
+        requires enough { length row.now ≤ length (T.cells tape.old) }
+        ensures numbers { (array_vec_len self.new.lanes ≡ array_vec_len self.old.lanes) × (self.new.steps ≡ self.old.steps + 1) }
+        ensures lanes { lanes_of self.new.lanes.items ≡ published_by (F.says finisher.old) 0 (advanced_by back self.old.lanes.items row.now (T.cells tape.old)) }
+        ensures drawn { T.cells tape.new ≡ drop (length row.now) (T.cells tape.old) }
+        ensures finished { F.says finisher.new ≡ says_after (F.says finisher.old) 0 (map release (advanced_by back self.old.lanes.items row.now (T.cells tape.old))) }
     {
-        advance_all(&mut self.lanes, self.steps as usize, back, row, cells);
-        self.steps += 1;
-    }
-
-    /// The releases of the classes, from the first place on.
-    pub(crate) fn releases(&self) -> [i64; CLASSES]
-        ensures { take self.now.classes result ≡ map release (lanes_of self.now.classes self.now.steps self.now.lanes) }
-    {
-        let mut releases = [0; CLASSES];
-        for class in 0..self.classes {
-            releases[class] = self.lanes[class].release(self.steps as usize);
+        for (class, lane) in self.lanes.iter_mut().enumerate() {
+            let cell = tape.draw().unwrap();
+            // by the class: over a zip of these lanes with the row the check learns nothing of what is written
+            lane.advance(back, row[class], cell);
+            let release = lane.release();
+            lane.published = finisher.finish(class, release).unwrap();
         }
-        releases
-    }
-
-    /// Stores the published counts.
-    pub(crate) fn publish(&mut self, counts: &[i64; CLASSES])
-        ensures numbers { (self.new.classes ≡ self.old.classes) × (self.new.steps ≡ self.old.steps) }
-        ensures lanes { lanes_of self.old.classes self.old.steps self.new.lanes ≡ all_published (lanes_of self.old.classes self.old.steps self.old.lanes) (take self.old.classes counts.now) }
-    {
-        publish_all(&mut self.lanes, self.classes, counts);
+        self.steps += 1;
     }
 }

@@ -2,15 +2,7 @@
 use Rattle.std.proofs.Common.{◌≡◌, ℕ, zero, suc, ◌+◌, ◌*◌, ◌/◌, ◌%◌, ◌^◌, ◌<◌, ◌≤◌, List, [], ◌∷◌, length, get_or, drop, pos, ◌-ℤ◌, sym, refl, ap, ◌∙◌, pow-suc, arith, w32, to_z}
 use lib.Count.{ones, ones_in, ones_step, ones_cat, ones-le}
 use Rattle.std.proofs.lemmas.Int.{to_z_pos}
-use Rattle.tape.specs.Tapes.{byte_cell, byte_cells, coins, cell_of_coins, coin_cells}
-
--- the first cell of four bytes or more, and those of the bytes after it
-pub byte-cells-some : (xs : List ℕ) → 4 ≤ length xs → byte_cells xs ≡ byte_cell (get_or xs 0 0) (get_or xs 1 0) (get_or xs 2 0) (get_or xs 3 0) ∷ byte_cells (drop 4 xs)
-byte-cells-some [] h = absurd (omega arith)
-byte-cells-some (a ∷ []) h = absurd (omega arith)
-byte-cells-some (a ∷ b ∷ []) h = absurd (omega arith)
-byte-cells-some (a ∷ b ∷ c ∷ []) h = absurd (omega arith)
-byte-cells-some (a ∷ b ∷ c ∷ d ∷ more) h = refl
+use Rattle.tape.specs.Tapes.{byte_cells, coins, cell_of_coins, coin_cells}
 
 pub length-byte-cells : (xs : List ℕ) → length xs / 4 ≡ length (byte_cells xs)
 length-byte-cells [] = refl

@@ -60,15 +60,16 @@ impl<'a> Tape for ByteTape<'a> {
     }
 
     fn draw(&mut self) -> Result<i32, Fault> {
-        let [a, b, c, d, rest @ ..] = self.bytes else {
+        let Some((four, rest)) = self.bytes.split_first_chunk() else {
             return Err(SHORT);
         };
-        let cell = i32::from_le_bytes([*a, *b, *c, *d]);
+        let cell = i32::from_le_bytes(*four);
         self.bytes = rest;
         Ok(cell)
     }
 }
 
+// Not one type with the byte tape: they differ in how bytes make a cell, and one type over that is a trait more, and longer.
 /// The caller's bytes in eights, each the number of its one bits, less 32.
 #[derive(Drop)]
 pub struct CoinTape<'a> {
@@ -94,10 +95,10 @@ impl<'a> Tape for CoinTape<'a> {
     }
 
     fn draw(&mut self) -> Result<i32, Fault> {
-        let [a, b, c, d, e, f, g, h, more @ ..] = self.bytes else {
+        let Some((eight, more)) = self.bytes.split_first_chunk() else {
             return Err(SHORT);
         };
-        let coins = coin_cell([*a, *b, *c, *d, *e, *f, *g, *h]);
+        let coins = coin_cell(*eight);
         self.bytes = more;
         Ok(coins)
     }

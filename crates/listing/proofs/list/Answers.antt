@@ -1,17 +1,6 @@
-use Rattle.std.proofs.Common.{ℕ, ◌<◌, ◌≤◌, List, length, sym, subst, arith, rules}
-use Rattle.listing.proofs.Sums.{left-start, left_end, rest_le, turn-less, turn_more, turn-stop}
+use Rattle.std.proofs.Common.{◌<◌, length, rules}
+use Rattle.listing.proofs.Sums.{left_end, turn_more, turn-stop}
 use Rattle.listing.proofs.list.Goals as goal
-
-pub loop-rest-init : goal.loop-rest-init
-loop-rest-init g c = (left-start c.args.bytes.now, omega arith, omega arith)
-
-pub overflow_sub-rest : goal.overflow_sub-rest
-overflow_sub-rest g c =
-    subst (λ (xs : List ℕ). length xs ≤ length c.loop-rest.rest.now) (sym c.read_record.ensures.rest) (rest_le c.loop-rest.rest.now)
-
-pub loop-rest-smaller : goal.loop-rest-smaller
-loop-rest-smaller g c =
-    turn-less c.loop-rest.summary _ c.loop-rest.rest.now c.read_record.result.1.now c.args.bytes.now _ c.read_record.ensures.value c.read_record.ensures.rest c.if-not-add.ensures.after c.if-not-add.ensures.value
 
 pub loop-rest-preserved : goal.loop-rest-preserved
 loop-rest-preserved g c =

@@ -1,12 +1,8 @@
-use Rattle.std.proofs.Common.{◌≡◌, ◌≤◌, length, take, drop}
+use Rattle.std.proofs.Common.{◌+◌, ◌≤◌, min}
 use Rattle.plan.specs.Plans.{horizon}
-use Rattle.sketch.specs.Noise.{steps_to}
+use Rattle.sketch.proofs.Turns.{HasDrawn}
 use Rattle.sketch.proofs.course_of.Given as goal
 
-abbrev pub invariant-loop-done : goal.invariant-loop-done
-invariant-loop-done g l =
-    let p = g.P.Plan.back l.plan in
-    let cells = g.T.Tape.cells l.initial.tape in
-    let n = l.course.count in
-    (n ≡ l.done) × (n ≤ length cells) × (g.T.Tape.cells l.tape ≡ drop n cells) × (take n l.course.steps ≡ steps_to p cells n)
-    × (length l.course.steps ≡ horizon)
+abbrev pub invariant-loop-number : goal.invariant-loop-number
+invariant-loop-number g l =
+    (l.number ≤ min l.steps horizon + 1) × HasDrawn (g.P.Plan.back l.plan) (g.T.Tape.cells l.initial.tape) l.number l.course (g.T.Tape.cells l.tape)

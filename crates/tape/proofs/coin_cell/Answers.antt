@@ -4,9 +4,6 @@ use Rattle.std.proofs.lemmas.Int.{ints, to_z-of_z}
 use Rattle.tape.proofs.Cells.{eight-coins, less-32}
 use Rattle.tape.proofs.coin_cell.Goals as goal
 
-pub overflow_cast-result : goal.overflow_cast-result
-overflow_cast-result c = record { sfits = omega (arith, ones-le 64 c.from_le_bytes.result c.from_le_bytes.type_inv) }
-
 pub overflow_sub-result : goal.overflow_sub-result
 overflow_sub-result c =
     omega (arith, ints, ones-le 64 c.from_le_bytes.result c.from_le_bytes.type_inv)

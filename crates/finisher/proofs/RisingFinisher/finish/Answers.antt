@@ -1,9 +1,8 @@
-use Rattle.std.proofs.Common.{◌≡◌, ◌<◌, length, get_or, set, pos, Ok, Err, sym, ap, ◌∙◌, ap₂, arith, w64, SFits, to_z, of_z, rules}
-use Rattle.std.proofs.lemmas.Result.{err_from_is_err_and}
+use Rattle.std.proofs.Common.{◌≡◌, ◌<◌, length, get_or, set, pos, Ok, sym, ap, ◌∙◌, ap₂, arith, w64, SFits, to_z, of_z, rules}
 use Rattle.std.proofs.lemmas.Int.{to_z-of_z}
 use Rattle.std.specs.Int.{int_max}
 use Rattle.finisher.specs.Kinds.{raised, rising}
-use Rattle.finisher.specs.Nearness.{accepted, refused, answered, same-near}
+use Rattle.finisher.specs.Nearness.{accepted, answered, same-near}
 use Rattle.finisher.proofs.RisingFinisher.finish.Goals as goal
 
 pub returns : goal.returns
@@ -28,19 +27,4 @@ returns g c =
       moved = λ h. ap₂ rising (said-now h) (ap (set held class) is);
       stood = λ h. same-near (said-now h) (stood-now h) (ap (set held class) is);
       refused = λ h. absurd (omega (arith, ok.0));
-    }
-
-pub returns-in_err-answer : goal.returns-in_err-answer
-returns-in_err-answer g c =
-    let fits : SFits w64 c.args.release = search rules in
-    let said = simp to_z-of_z at c.finish.ensures.answer in
-    let below = g.F.Finisher.says c.args.self.now.below in
-    let held = c.args.self.now.held in
-    let none = refused below c.args.class c.args.release c.in_err-answer.field-0.0 (sym c.in_err-answer.was ∙ said) in
-    let out = err_from_is_err_and c.from_residual.result c.from_residual.ensures.1 in
-    record {
-      answer = out.1 ∙ ap Err out.2 ∙ none.1 (rising below held);
-      moved = λ h. absurd (omega (arith, none.0));
-      stood = λ h. absurd (omega (arith, none.0));
-      refused = λ h. ap (λ f. record { below = f; held = held }) (c.finish.ensures.refused h);
     }

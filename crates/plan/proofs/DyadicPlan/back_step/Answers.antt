@@ -1,9 +1,6 @@
-use Rattle.std.proofs.Common.{sym, ◌∙◌, arith}
-use Rattle.plan.specs.Known.{dyadic}
-use Rattle.plan.proofs.Asked.{back-asked}
+use Rattle.std.proofs.Common.{arith}
 use Rattle.plan.specs.Dyadics.{dyadic-clears}
 use Rattle.plan.proofs.DyadicPlan.back_step.Goals as goal
 
-pub returns-then-t-le-HORIZON : goal.returns-then-t-le-HORIZON
-returns-then-t-le-HORIZON c =
-    dyadic-clears c.args.t ∙ sym (back-asked dyadic c.args.t (omega arith) (omega arith))
+pub returns-in-1-to-1024 : goal.returns-in-1-to-1024
+returns-in-1-to-1024 c = grind (arith, dyadic-clears)

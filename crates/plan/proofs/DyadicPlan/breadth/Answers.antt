@@ -1,11 +1,10 @@
-use Rattle.std.proofs.Common.{sym, ◌∙◌, arith}
+use Rattle.std.proofs.Common.{arith}
 use Rattle.plan.specs.Known.{dyadic}
-use Rattle.plan.proofs.Asked.{asked}
 use Rattle.plan.specs.Dyadics.{dyadic-halves}
 use Rattle.plan.specs.Halving.{halves-breadth}
 use Rattle.plan.proofs.DyadicPlan.breadth.Goals as goal
 
-pub returns-then-k-le-HORIZON : goal.returns-then-k-le-HORIZON
-returns-then-k-le-HORIZON c =
+pub returns-in-0-to-1024 : goal.returns-in-0-to-1024
+returns-in-0-to-1024 c =
     let log = c.ilog2.ensures in
-    sym (asked c.args.k _ (omega arith) ∙ halves-breadth dyadic dyadic-halves c.ilog2.result c.args.k log.power_le log.next_power_gt)
+    grind (arith, halves-breadth dyadic dyadic-halves c.ilog2.result c.args.k log.power_le log.next_power_gt)

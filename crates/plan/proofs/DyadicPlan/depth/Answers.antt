@@ -1,14 +1,14 @@
-use Rattle.std.proofs.Common.{sym, ◌∙◌, arith}
+use Rattle.std.proofs.Common.{arith}
 use Rattle.plan.specs.Known.{dyadic}
-use Rattle.plan.proofs.Asked.{asked, depth-none}
 use Rattle.plan.specs.Dyadics.{dyadic-halves}
 use Rattle.plan.specs.Halving.{halves-depth}
+use Rattle.plan.proofs.Asked.{depth-zero}
 use Rattle.plan.proofs.DyadicPlan.depth.Goals as goal
 
-pub returns-then-k-le-HORIZON : goal.returns-then-k-le-HORIZON
-returns-then-k-le-HORIZON c =
+pub returns-in-1-to-1024 : goal.returns-in-1-to-1024
+returns-in-1-to-1024 c =
     let log = c.ilog2.ensures in
-    sym (asked c.args.k _ (omega arith) ∙ halves-depth dyadic dyadic-halves c.ilog2.result c.args.k log.power_le log.next_power_gt)
+    grind (arith, halves-depth dyadic dyadic-halves c.ilog2.result c.args.k log.power_le log.next_power_gt)
 
-pub returns-else-k-gt0 : goal.returns-else-k-gt0
-returns-else-k-gt0 c = sym (depth-none dyadic c.args.k (omega arith))
+pub returns-in_default : goal.returns-in_default
+returns-in_default c = grind (arith, depth-zero dyadic)

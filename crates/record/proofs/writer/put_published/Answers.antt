@@ -1,37 +1,38 @@
-use Rattle.std.proofs.Common.{ℕ, ◌+◌, ◌-◌, ◌*◌, ◌/◌, ◌<◌, List, ◌++◌, length, take, sym, refl, ap, ◌∙◌, arith}
-use native.Mathlib.Nat.{sub-zero}
+use Rattle.std.proofs.Common.{ℕ, ◌≡◌, ◌+◌, ◌≤◌, ◌<◌, List, ◌++◌, map, length, refl, ap, arith, w64, of_z}
 use Rattle.std.proofs.ByRecursion.{All-from_get_or}
-use Rattle.std.proofs.lemmas.List.{length-take}
-use Rattle.record.specs.Little.{little}
-use Rattle.record.specs.Kinds.{body_of, published, tally_in}
-use Rattle.record.proofs.Counts.{length-tally, tally-bytes, tally-fits, tally-size}
-use Rattle.record.proofs.Puts.{put-more, same-frame}
-use Rattle.record.proofs.ReadBack.{reads-back}
+use Rattle.std.proofs.lemmas.List.{length-map}
+use Rattle.record.specs.Little.{little, spread}
+use Rattle.record.specs.Kinds.{bytes_of, published, tally_in}
+use Rattle.record.proofs.Digits.{length-spread}
+use Rattle.record.proofs.Bodies.{tally-fits}
+use Rattle.record.proofs.Puts.{begun, framed, more}
+use Rattle.record.proofs.Written.{wrote}
 use Rattle.record.proofs.writer.put_published.Goals as goal
 
-pub overflow_cast-size : goal.overflow_cast-size
-overflow_cast-size c = record { fits = omega (arith, length-tally c.args.counts.now) }
+pub overflow_cast-body : goal.overflow_cast-body
+overflow_cast-body c =
+    let counts = c.in_ok-body.ensures in
+    record { fits = omega (arith, ap length counts.0, length-spread 8 (map (of_z w64) (tally_in c.args.counts.now)), length-map (tally_in c.args.counts.now) (of_z w64)) }
 
-pub overflow_add-size : goal.overflow_add-size
-overflow_add-size c = record { fits = omega (arith, length-tally c.args.counts.now) }
-
-pub put_bytes-requires : goal.put_bytes-requires
-put_bytes-requires c =
-    let r = c.requires.room in simp length-take (omega (arith, tally-size c.args.counts.now))
+pub overflow_add-body : goal.overflow_add-body
+overflow_add-body c =
+    let counts = c.in_ok-body.ensures in
+    record { fits = omega (arith, ap length counts.0, length-spread 8 (map (of_z w64) (tally_in c.args.counts.now)), length-map (tally_in c.args.counts.now) (of_z w64)) }
 
 pub returns : goal.returns
 returns c =
-    let bs = c.args.counts.now in
+    let counts = c.in_ok-body.ensures in
+    let size = c.in_ok-size.ensures in
     let all = All-from_get_or (λ b. b < 256) c.args.counts.now 0 (λ i _. (c.type_inv.counts i).fits) in
-    let size = length c.args.counts.now / 8 * 8 in
-    let head = little 2 (6 + size) ++ little 2 34 in
-    let entry = published c.args.serial c.args.step (tally_in bs) in
+    let tally = tally_in c.args.counts.now in
+    let entry = published c.args.serial c.args.step tally in
+    let body = c.in_ok-body.body.now in
     let fixed = little 4 c.args.serial ++ little 2 c.args.step in
-    let e0 = put-more head (little 4 c.args.serial) c.args.out.now _ _ 4 refl c.put_header.ensures c.put_u32.ensures in
-    let e1 = put-more (head ++ little 4 c.args.serial) (little 2 c.args.step) c.args.out.now _ _ 8 refl e0 c.put_u16.ensures in
-    let e2 = put-more (head ++ little 4 c.args.serial ++ little 2 c.args.step) (take (size - 0) bs) c.args.out.now _ _ 10 refl e1 c.put_bytes.ensures in
-    let body = ap (λ (n : ℕ). take n c.args.counts.now) (sub-zero size) ∙ sym (tally-bytes bs all) in
-    record {
-      stores = e2 ∙ same-frame 34 (6 + size) (length (body_of entry)) (fixed ++ take (size - 0) bs) (body_of entry) c.args.out.now (omega (arith, tally-size c.args.counts.now)) (ap (λ (z : List ℕ). fixed ++ z) body);
-      reads_back = reads-back entry (c.ranges.serial.fits, c.ranges.step.fits, c.requires.some, c.requires.few, tally-fits bs all);
-    }
+    let long = ap length counts.0 in
+    let room : length (bytes_of entry) ≤ length c.args.out.now = omega arith in
+    let written : c.in_ok-size.size ≡ length (bytes_of entry) = omega arith in
+    let head = begun {ys = little 2 (6 + length body) ++ little 2 34} size.2 in
+    let serial = more 4 (little 4 c.args.serial) head c.store.ensures refl in
+    let step = more 8 (little 2 c.args.step) serial c.store-2.ensures refl in
+    let whole = more 10 body step c.put_bytes.ensures refl in
+    wrote entry c.args.out.now counts.1 counts.2 room (c.ranges.serial.fits, c.ranges.step.fits, counts.1, counts.2, tally-fits c.args.counts.now all) written (framed 34 (6 + length body) (fixed ++ body) (fixed ++ spread 8 (map (of_z w64) tally)) (ap (λ (z : List ℕ). fixed ++ z) counts.0) (omega arith) whole)

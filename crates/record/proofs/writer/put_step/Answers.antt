@@ -1,29 +1,28 @@
-use Rattle.std.proofs.Common.{ℕ, ◌-◌, ◌*◌, ◌/◌, ◌<◌, ◌++◌, length, take, sym, refl, ap, ◌∙◌, arith}
-use native.Mathlib.Nat.{sub-zero}
+use Rattle.std.proofs.Common.{◌≡◌, ◌≤◌, ◌<◌, ◌++◌, length, refl, ap, arith}
 use Rattle.std.proofs.ByRecursion.{All-from_get_or}
-use Rattle.std.proofs.lemmas.List.{length-take}
-use Rattle.record.specs.Little.{little}
-use Rattle.record.specs.Kinds.{body_of, row_in, stepping}
-use Rattle.record.proofs.Counts.{length-row, row-bytes, row_fits, row-size}
-use Rattle.record.proofs.Puts.{put-more, same-frame}
-use Rattle.record.proofs.ReadBack.{reads-back}
+use Rattle.record.specs.Little.{little, spread}
+use Rattle.record.specs.Kinds.{bytes_of, row_in, stepping}
+use Rattle.record.proofs.Digits.{length-spread}
+use Rattle.record.proofs.Bodies.{row_fits}
+use Rattle.record.proofs.Puts.{begun, framed, more}
+use Rattle.record.proofs.Written.{wrote}
 use Rattle.record.proofs.writer.put_step.Goals as goal
 
-pub overflow_cast-size : goal.overflow_cast-size
-overflow_cast-size c = record { fits = omega (arith, length-row c.args.counts.now) }
-
-pub put_bytes-requires : goal.put_bytes-requires
-put_bytes-requires c =
-    let r = c.requires.room in simp length-take (omega (arith, row-size c.args.counts.now))
+pub overflow_cast-body : goal.overflow_cast-body
+overflow_cast-body c =
+    let counts = c.in_ok-body.ensures in
+    record { fits = omega (arith, ap length counts.0, length-spread 2 (row_in c.args.counts.now)) }
 
 pub returns : goal.returns
 returns c =
-    let bs = c.args.counts.now in
+    let counts = c.in_ok-body.ensures in
+    let size = c.in_ok-size.ensures in
     let all = All-from_get_or (λ b. b < 256) c.args.counts.now 0 (λ i _. (c.type_inv.counts i).fits) in
-    let size = length c.args.counts.now / 2 * 2 in
-    let e = put-more (little 2 size ++ little 2 3) (take (size - 0) bs) c.args.out.now _ _ 4 refl c.put_header.ensures c.put_bytes.ensures in
-    let body = ap (λ (n : ℕ). take n c.args.counts.now) (sub-zero size) ∙ sym (row-bytes bs all) in
-    record {
-      stores = e ∙ same-frame 3 size (length (body_of (stepping (row_in bs)))) (take (size - 0) bs) (body_of (stepping (row_in bs))) c.args.out.now (sym (row-size bs)) body;
-      reads_back = reads-back (stepping (row_in bs)) (c.requires.some, c.requires.few, row_fits bs all);
-    }
+    let row = row_in c.args.counts.now in
+    let body = c.in_ok-body.body.now in
+    let long = ap length counts.0 in
+    let room : length (bytes_of (stepping row)) ≤ length c.args.out.now = omega arith in
+    let written : c.in_ok-size.size ≡ length (bytes_of (stepping row)) = omega arith in
+    let head = begun {ys = little 2 (length body) ++ little 2 3} size.2 in
+    let whole = more 4 body head c.put_bytes.ensures refl in
+    wrote (stepping row) c.args.out.now counts.1 counts.2 room (counts.1, counts.2, row_fits c.args.counts.now all) written (framed 3 (length body) body (spread 2 row) counts.0 long whole)
