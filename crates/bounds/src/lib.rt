@@ -28,7 +28,8 @@ impl Bound {
     pub fn largest(&self) -> u32
         ensures { result ≡ self.now.largest }
     {
-        self.largest
+        let Bound { largest } = *self;
+        largest
     }
 
     /// Draws so many cells, or as many as are left. Where the bound covered the cells before, it covers these too.

@@ -4,7 +4,8 @@
 
 #![tactic(auto)]
 
-ghost use Rattle.std.specs.Prelude.{◌≡◌, ℕ, ◌≤◌, List, length};
+ghost use Rattle.std.specs.Prelude.{◌≡◌, ℕ, ◌≤◌, length};
+ghost use Rattle.arrayvec.specs.ArrayVec.{array_vec_len};
 ghost use Rattle.plan.specs.Plans.{horizon, Falls, back_asked, depth_asked, breadth_asked, cover_asked};
 ghost use Rattle.plan.specs.Known.{single, dyadic};
 ghost use Rattle.plan.specs.Choice.{back_of, choice, default_plan};
@@ -17,7 +18,6 @@ ghost use Rattle.plan.specs.ChosenFalls.{chosen-falls};
 
 use arrayvec::ArrayVec;
 use fault::{Cause, Fault, Layer};
-use std::marker::Model;
 
 /// The last step that a plan speaks of.
 pub const HORIZON: u16 = 1024;
@@ -171,20 +171,13 @@ impl Plan for Chosen {
 #[derive(Drop)]
 pub struct Cover {
     steps: ArrayVec<u16, MOST_STEPS>,
-}
-
-impl Model for Cover {
-    ghost Value = { List ℕ };
-
-    ghost view = { λ cover. cover.steps.items };
-
-    ghost invariant = { λ cover. length cover.steps.items ≤ horizon };
+    ghost fits: { array_vec_len steps ≤ horizon },
 }
 
 impl Cover {
     /// The steps of the cover's parts, newest first.
     pub fn as_slice(&self) -> &[u16]
-        ensures value { result.now ≡ self.now }
+        ensures value { result.now ≡ self.now.steps.items }
         ensures fits { length result.now ≤ horizon }
     {
         self.steps.as_slice()
@@ -194,7 +187,7 @@ impl Cover {
 /// The cover of step `t`: `t`, its back step, the back step of that, and so on down to 0; empty beyond the horizon.
 /// The laws of covers, depth and breadth hold of every plan.
 pub fn cover_of<P: Plan>(plan: &P, t: u16) -> Cover
-    ensures steps { result ≡ cover_asked (P.back plan.now) t }
+    ensures steps { result.steps.items ≡ cover_asked (P.back plan.now) t }
     ensures laws { CoverLaws (P.back plan.now) }
 {
     let mut steps = ArrayVec::new();

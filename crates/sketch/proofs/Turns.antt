@@ -1,6 +1,7 @@
 -- What a draw gives, and the list of the steps, one step on.
-use Rattle.std.proofs.Common.{◌≡◌, ℕ, zero, suc, ◌+◌, ◌*◌, ◌^◌, ◌<◌, ◌≤◌, List, [], ◌∷◌, ◌++◌, length, get_or, drop, ℤ, pos, Ok, Err, sym, refl, ap, ◌∙◌, zero-le, not-suc-le-zero, add-one, arith, w32, SFits}
-use Rattle.std.proofs.lemmas.List.{drop_more, drop_all, length_push}
+use Rattle.std.proofs.Common.{◌≡◌, ℕ, zero, suc, ◌+◌, ◌*◌, ◌^◌, ◌<◌, ◌≤◌, List, [], ◌∷◌, ◌++◌, length, get_or, take, drop, ℤ, pos, Ok, Err, sym, refl, ap, ◌∙◌, zero-le, not-suc-le-zero, add-one, arith, w32, SFits}
+use Rattle.std.proofs.Math.Seq.{take-length}
+use Rattle.std.proofs.lemmas.List.{drop_more, drop_all, get_or-take, length_push}
 use Rattle.std.proofs.lemmas.Grind.{common_steps}
 use lib.Signed.{mag}
 use Rattle.std.specs.List.{AllByRecursion}
@@ -35,9 +36,19 @@ module _ (p : ℕ → ℕ) (cells : List ℤ) where
   step-at zero k h = absurd (not-suc-le-zero h)
   step-at (suc n) k h = grind (arith, common_steps, step-at n k, length-steps n)
 
-  noise-read : (n : ℕ) (steps : List Step) → steps ≡ steps_to p cells n → (t : ℕ) → t ≤ n → noise_after steps t ≡ noise_of p cells t
-  noise-read n steps e zero h = sym (noise-none p cells)
-  noise-read n steps e (suc t) h = grind (arith, step-at n t)
+  -- the first n of the listed steps are the steps 1 to n
+  module _ (n : ℕ) (steps : List Step) (e : take n steps ≡ steps_to p cells n) where
+    read_at : (k : ℕ) → k < n → get_or steps k no_step ≡ step_of p cells (k + 1)
+    read_at k h = sym (get_or-take n steps k no_step h) ∙ rw e (step-at n k h)
+
+    noise-read : (t : ℕ) → t ≤ n → noise_after steps t ≡ noise_of p cells t
+    noise-read zero h = sym (noise-none p cells)
+    noise-read (suc t) h = grind (arith, read_at t)
+
+    pub noise-fits : AllByRecursion (SFits w32) cells → n ≤ horizon → (t : ℕ) → t ≤ n → mag (noise_after steps t) < 2 ^ 62
+    noise-fits fits u t h =
+        let small : mag (noise_of p cells t) ≤ 2 ^ 31 * t = noise-small p cells fits t in
+        rw (noise-read t h) (omega arith)
 
   -- The steps before step `next` are listed, each with its cell, and these cells are left.
   pub record HasDrawn (next : ℕ) (steps : List Step) (left : List ℤ) : Type 0 where
@@ -69,23 +80,17 @@ module _ (p : ℕ → ℕ) (cells : List ℤ) where
           let less : p (length steps + 1) < length steps + 1 = falls _ (omega arith) (omega arith) in
           omega (arith, back)
 
-      pub noise-fits : AllByRecursion (SFits w32) cells → mag (noise_after steps b) < 2 ^ 62
-      noise-fits fits =
-          let counted = so_far.counted in
-          let small : mag (noise_of p cells b) ≤ 2 ^ 31 * b = noise-small p cells fits b in
-          let before = earlier in
-          rw (noise-read (length steps) steps so_far.steps_are b earlier) (omega arith)
-
       pub drawn_on : (cell z : ℤ) (steps' : List Step) (left' : List ℤ) → Ok cell ≡ drawn left → left' ≡ undrawn left → z ≡ cell
           → steps' ≡ steps ++ step_from steps (length steps) b z ∷ [] → HasDrawn (next + 1) steps' left'
       drawn_on cell z steps' left' d moved same e =
           let n = length steps in
           let counted = so_far.counted in
           let are = so_far.steps_are in
+          let all : take (length steps) steps ≡ steps_to p cells (length steps) = take-length steps ∙ are in
           let is = so_far.left_is in
           let drawn_cell = drew cells n cell (rw is at d) in
           let size : length steps' ≡ n + 1 = ap length e ∙ length_push steps _ in
-          let noise = noise-read n steps are b earlier in
+          let noise = noise-read n steps all b earlier in
           let more = noise-more p cells falls (n + 1) (omega arith) (omega arith) in
           let list = steps-more n in
           let at = back in

@@ -2,7 +2,8 @@
 
 #![tactic(auto)]
 
-ghost use Rattle.std.specs.Prelude.{◌≡◌, ◌^◌, ◌<◌, ◌≤◌, min, List, [], ◌∷◌, ◌++◌, length, drop};
+ghost use Rattle.std.specs.Prelude.{◌≡◌, ◌^◌, ◌<◌, ◌≤◌, min, [], ◌∷◌, ◌++◌, length, drop};
+ghost use Rattle.arrayvec.specs.ArrayVec.{array_vec_len};
 ghost use Rattle.std.specs.Int.Signed.{mag};
 ghost use Rattle.plan.specs.Plans.{horizon};
 ghost use Rattle.sketch.specs.Asked.{horizon_asked};
@@ -11,7 +12,6 @@ ghost use Rattle.sketch.specs.Noise.{noise_after, step_from, steps_to, NoiseLaws
 use arrayvec::ArrayVec;
 use fault::{Cause, Fault, Layer};
 use plan::{HORIZON, MOST_STEPS, Plan};
-use std::marker::Model;
 use tape::Tape;
 
 /// A step of a sketch: its number from 1 on, the first step of its part, the cell drawn for it, and the noise at it.
@@ -27,23 +27,12 @@ pub struct Step {
 #[derive(Drop)]
 pub struct Course {
     steps: ArrayVec<Step, MOST_STEPS>,
-}
-
-impl Model for Course {
-    ghost use Rattle.std.specs.Prelude.{◌≤◌, List, length};
-    ghost use Rattle.plan.specs.Plans.{horizon};
-    ghost use Rattle.sketch.specs.declared.Step.{Step};
-
-    ghost Value = { List Step };
-
-    ghost view = { λ course. course.steps.items };
-
-    ghost invariant = { λ course. length course.steps.items ≤ horizon };
+    ghost fits: { array_vec_len steps ≤ horizon },
 }
 
 impl Course {
     fn new() -> Course
-        ensures { result ≡ [] }
+        ensures { result.steps.items ≡ [] }
     {
         Course {
             steps: ArrayVec::new(),
@@ -52,7 +41,7 @@ impl Course {
 
     /// The steps, from step 1 on.
     pub fn as_slice(&self) -> &[Step]
-        ensures value { result.now ≡ self.now }
+        ensures value { result.now ≡ self.now.steps.items }
         ensures fits { length result.now ≤ horizon }
     {
         self.steps.as_slice()
@@ -60,8 +49,8 @@ impl Course {
 
     /// The noise at step `t`, which is 0 at step 0.
     fn noise_at(&self, t: u16) -> i64
-        requires { t ≤ length self.now }
-        ensures { result ≡ noise_after self.now t }
+        requires { t ≤ array_vec_len self.now.steps }
+        ensures { result ≡ noise_after self.now.steps.items t }
     {
         match t {
             0 => 0,
@@ -71,10 +60,10 @@ impl Course {
 
     /// Takes the next step, with its back step and its cell.
     fn push(&mut self, back: u16, cell: i32)
-        requires room { length self.old < horizon }
-        requires earlier { back ≤ length self.old }
-        requires small { mag (noise_after self.old back) < 2 ^ 62 }
-        ensures { self.new ≡ self.old ++ step_from self.old (length self.old) back cell ∷ [] }
+        requires room { array_vec_len self.old.steps < horizon }
+        requires earlier { back ≤ array_vec_len self.old.steps }
+        requires small { mag (noise_after self.old.steps.items back) < 2 ^ 62 }
+        ensures { self.new.steps.items ≡ self.old.steps.items ++ step_from self.old.steps.items (array_vec_len self.old.steps) back cell ∷ [] }
     {
         let noise = i64::from(cell) + self.noise_at(back);
         self.steps.push(Step {
@@ -99,9 +88,9 @@ pub fn horizon_by_number(number: u16) -> Result<u16, Fault>
 /// Draws a cell for each step from 1 on, and answers these steps with their noise. It ends with `steps`, the horizon or
 /// the last cell of the tape, whichever comes first. The laws of noise hold of every plan.
 pub fn course_of<P: Plan, T: Tape>(plan: &P, tape: &mut T, steps: u16) -> Course
-    ensures count { length result ≡ min (min steps horizon) (length (T.cells tape.old)) }
-    ensures steps { result ≡ steps_to (P.back plan.now) (T.cells tape.old) (length result) }
-    ensures tape { T.cells tape.new ≡ drop (length result) (T.cells tape.old) }
+    ensures count { array_vec_len result.steps ≡ min (min steps horizon) (length (T.cells tape.old)) }
+    ensures steps { result.steps.items ≡ steps_to (P.back plan.now) (T.cells tape.old) (array_vec_len result.steps) }
+    ensures tape { T.cells tape.new ≡ drop (array_vec_len result.steps) (T.cells tape.old) }
     ensures laws { NoiseLaws (P.back plan.now) (T.cells tape.old) }
 {
     let mut course = Course::new();

@@ -1,4 +1,5 @@
 use Rattle.std.proofs.Common.{◌+◌, ◌≤◌, arith, sym, ◌∙◌, w32, SFits, rules}
+use Rattle.std.proofs.Math.Seq.{take-length}
 use Rattle.std.proofs.lemmas.Int.{to_z-of_z}
 use Rattle.plan.specs.Plans.{horizon}
 use Rattle.sketch.proofs.Noises.{noise-laws}
@@ -16,10 +17,11 @@ push-requires g c =
     let so_far = c.loop-number.invariant.1 in
     let counted = so_far.counted in
     let high : c.loop-number.number ≤ horizon = omega arith in
+    let back = earlier p cells _ _ _ so_far falls high _ c.back_step.ensures in
     record {
       room = omega arith;
-      earlier = earlier p cells _ _ _ so_far falls high _ c.back_step.ensures;
-      small = noise-fits p cells _ _ _ so_far falls high _ c.back_step.ensures (g.T.Tape.narrow c.args.tape.now);
+      earlier = back;
+      small = noise-fits p cells _ c.loop-number.course.steps.items (take-length c.loop-number.course.steps.items ∙ so_far.steps_are) (g.T.Tape.narrow c.args.tape.now) (omega arith) _ back;
     }
 
 pub loop-number-preserved : goal.loop-number-preserved
@@ -37,7 +39,7 @@ returns-in-Ok g c =
     let falls = g.met.P.Plan.falls c.args.plan.now in
     let high : c.loop-number.number ≤ horizon = omega arith in
     let fits : SFits w32 c.in-Ok.cell = search rules in
-    let all : HasDrawn (g.P.Plan.back c.args.plan.now) (g.T.Tape.cells c.args.tape.now) (c.loop-number.number + 1) c.push.new.self (g.T.Tape.cells c.draw.new.self) =
+    let all : HasDrawn (g.P.Plan.back c.args.plan.now) (g.T.Tape.cells c.args.tape.now) (c.loop-number.number + 1) c.push.new.self.steps.items (g.T.Tape.cells c.draw.new.self) =
     drawn_on _ _ _ _ _ c.loop-number.invariant.1 falls high _ c.back_step.ensures _ _ _ _ (sym c.in-Ok.is ∙ c.draw.ensures.answer) c.draw.ensures.moved
     (to_z-of_z w32 _ fits) c.push.ensures in
     let counted = all.counted in
