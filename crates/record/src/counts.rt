@@ -13,7 +13,8 @@ use std::marker::PhantomData;
 #[derive(Clone, Copy)]
 pub struct Counts<'a, N> {
     pub bytes: &'a [u8],
-    number: PhantomData<N>,
+    /// Which number each is. It is public so that counts can stand in a constant, whose value calls no function.
+    pub number: PhantomData<N>,
 }
 
 /// The counts of a row, two bytes each, as they stand in a step record's body.
