@@ -20,12 +20,8 @@ fn main(rt: HostRuntime) -> anyhow::Result<()> {
     let tape = read_tape(&rt, MOST)?;
     let (reading, rest) = read_record(&events);
     let (setting, plan) = set_up(&rt, &reading)?;
-    let mut watch = Watch::new(setting, plan, ByteTape::new(&tape), ByteTape::new(&tape))?;
-    let went = follow(&rt, &mut watch, rest);
-    let ended = watch.end(&rt);
-    went?;
-    ended?;
-    Ok(())
+    let tapes = (ByteTape::new(&tape), ByteTape::new(&tape));
+    watch_all(&rt, setting, plan, tapes, rest)
 }
 
 /// The setting and the plan that the first record names.
@@ -52,6 +48,24 @@ fn set_up(rt: &HostRuntime, reading: &Reading<'_>) -> anyhow::Result<(Setting, C
         Reading::Faulty(fault) => Err((*fault).into()),
         _ => Err(anyhow!("the first record is not a set-up")),
     }
+}
+
+/// Takes a new station through the events of the bytes.
+// A function of its own: room for a station is cleared where a function begins, and most of `main` needs none.
+fn watch_all<T: Tape + Drop>(
+    rt: &HostRuntime,
+    setting: Setting,
+    plan: Chosen,
+    tapes: (T, T),
+    events: &[u8],
+) -> anyhow::Result<()> {
+    let (tape, same) = tapes;
+    let mut watch = Watch::new(setting, plan, tape, same)?;
+    let went = follow(rt, &mut watch, events);
+    let ended = watch.end(rt);
+    went?;
+    ended?;
+    Ok(())
 }
 
 /// Takes the events of the bytes, one by one. A record that is cut short is the last.

@@ -1,7 +1,8 @@
 -- All classes: with no step taken, and a row taken, class after class.
-use Rattle.std.proofs.Common.{◌≡◌, ℕ, suc, ◌+◌, ◌<◌, ◌≤◌, List, [], ◌∷◌, ◌++◌, map, length, get_or, take, drop, set, replicate, ℤ, pos, sym, refl, ap, ◌∙◌, append_assoc, append-nil, add-one, arith}
+use Rattle.std.proofs.Common.{◌≡◌, ℕ, suc, ◌+◌, ◌<◌, ◌≤◌, List, [], ◌∷◌, ◌++◌, map, length, get_or, take, drop, set, replicate, ℤ, pos, sym, refl, ap, ◌∙◌, append_assoc, append-nil, add-one, subst, arith}
+use Rattle.std.proofs.Math.Seq.{take-append_seam}
 use Rattle.std.specs.List.{All}
-use Rattle.std.proofs.lemmas.List.{drop_more, drop-set-lt, map_push, take_more_set, drop_all, take_all}
+use Rattle.std.proofs.lemmas.List.{length-take-le, drop_more, drop-set-lt, map_push, take_more_set, drop_all, take_all}
 use Rattle.std.proofs.lemmas.List.Elements.{All-head, All-push, All-rest, All-same, All-tail}
 use Rattle.finisher.specs.Finishers.{Says, after, finishes}
 use Rattle.tape.specs.Tapes.{undrawn}
@@ -9,6 +10,10 @@ use Rattle.runs.specs.Model as model
 use Rattle.runs.specs.Model.{advance, all_advanced, release, says_after}
 use Rattle.station.specs.declared.table.Lane.{Lane}
 use Rattle.station.specs.Lanes.{advanced_by, lane_of, lanes_of, published_by}
+
+-- what is written over the first places of a list stands at its front
+pub written-front : (k : ℕ) (lanes new : List Lane) → k ≤ length lanes → length new ≡ length (take k lanes) → take k (new ++ drop k lanes) ≡ new
+written-front k lanes new h e = subst (λ (n : ℕ). take n (new ++ drop k lanes) ≡ new) (e ∙ length-take-le k lanes h) (take-append_seam new (drop k lanes))
 
 -- Classes with no step taken
 

@@ -1,6 +1,5 @@
 -- A station, as the model has it.
-use Rattle.std.specs.Prelude.{ℕ, List, ℤ}
-use Rattle.arrayvec.specs.ArrayVec.{array_vec_len}
+use Rattle.std.specs.Prelude.{ℕ, List, take, ℤ}
 use Rattle.finisher.specs.Finishers.{Says}
 use Rattle.runs.specs.Model as model
 use Rattle.runs.specs.Law.{Making}
@@ -24,7 +23,7 @@ making_of setting back cells says = record { setting = setting; back = back; cel
 abbrev pub view_of : {P T F : Type 0} → (P → ℕ → ℕ) → (T → List ℤ) → (F → Says) → Station P T F → model.Station
 view_of back cells says s =
     record {
-      setting = record { number = s.number; classes = array_vec_len s.table.lanes; grant = s.account.grant };
+      setting = record { number = s.number; classes = s.table.classes; grant = s.account.grant };
       back = back s.plan;
       cells = cells s.tape;
       says = says s.finisher;
@@ -32,6 +31,6 @@ view_of back cells says s =
       held = s.account.held;
       serial = s.serial;
       steps = s.table.steps;
-      lanes = lanes_of s.table.lanes.items;
+      lanes = lanes_of (take s.table.classes s.table.lanes);
       phase = phase_of s.phase;
     }

@@ -1,8 +1,9 @@
 //! The classes of a station: what each has counted, its noise at every step, and what was published last.
 
-ghost use Rattle.std.specs.Prelude.{◌≡◌, ◌+◌, ◌*◌, ◌<◌, ◌≤◌, map, length, drop, replicate, slice_index_or};
+ghost use Rattle.std.specs.Prelude.{◌≡◌, ◌+◌, ◌*◌, ◌<◌, ◌≤◌, map, length, take, drop, replicate, pos, slice_index_or};
 ghost use Rattle.std.specs.List.{All};
 ghost use Rattle.arrayvec.specs.ArrayVec.{array_vec_len};
+ghost use Rattle.tape.specs.Tapes.{undrawn};
 ghost use Rattle.runs.specs.Model.{advance, empty_lane, noise_after, release, says_after};
 ghost use Rattle.station.specs.Limits.{NoiseWithin};
 
@@ -77,14 +78,25 @@ impl Lane {
     }
 }
 
+/// The next cell of a tape that has one.
+fn next_cell<T: Tape>(tape: &mut T) -> i32
+    requires { 0 < length (T.cells tape.old) }
+    ensures cell { result ≡ slice_index_or (T.cells tape.old) 0 (pos 0) }
+    ensures moved { T.cells tape.new ≡ undrawn (T.cells tape.old) }
+{
+    tape.draw().unwrap()
+}
+
 /// The classes of a station, and the steps that they have taken.
 #[derive(Drop)]
 pub(crate) struct Table {
-    lanes: ArrayVec<Lane, CLASSES>,
+    classes: usize,
     steps: u16,
-    ghost some: { (1 ≤ array_vec_len lanes) × (array_vec_len lanes ≤ 8) },
+    // an array, since a vector fills the places behind its items once more when it is cut to the number of classes
+    lanes: [Lane; CLASSES],
+    ghost some: { (1 ≤ classes) × (classes ≤ 8) },
     ghost few: { steps ≤ 1024 },
-    ghost even: { All (λ lane. array_vec_len lane.noise ≡ steps) lanes.items },
+    ghost even: { All (λ lane. array_vec_len lane.noise ≡ steps) (take classes lanes) },
 }
 
 impl Table {
@@ -93,20 +105,22 @@ impl Table {
     /// A table of so many classes with no step taken.
     pub(crate) fn new(classes: usize) -> Table
         requires { (1 ≤ classes) × (classes ≤ 8) }
-        ensures numbers { (array_vec_len result.lanes ≡ classes) × (result.steps ≡ 0) }
-        ensures lanes { lanes_of result.lanes.items ≡ replicate classes empty_lane }
+        ensures numbers { (result.classes ≡ classes) × (result.steps ≡ 0) }
+        ensures lanes { lanes_of (take classes result.lanes) ≡ replicate classes empty_lane }
     {
-        let mut lanes = ArrayVec::from(<[Lane; CLASSES]>::default());
-        lanes.truncate(classes);
-        Table { lanes, steps: 0 }
+        Table {
+            classes,
+            steps: 0,
+            lanes: Default::default(),
+        }
     }
 
     /// Back to no step taken.
     pub(crate) fn clear(&mut self)
-        ensures numbers { (array_vec_len self.new.lanes ≡ array_vec_len self.old.lanes) × (self.new.steps ≡ 0) }
-        ensures lanes { lanes_of self.new.lanes.items ≡ replicate (array_vec_len self.old.lanes) empty_lane }
+        ensures numbers { (self.new.classes ≡ self.old.classes) × (self.new.steps ≡ 0) }
+        ensures lanes { lanes_of (take self.new.classes self.new.lanes) ≡ replicate self.old.classes empty_lane }
     {
-        for lane in self.lanes.iter_mut() {
+        for lane in self.lanes[..self.classes].iter_mut() {
             lane.clear();
         }
         self.steps = 0;
@@ -114,9 +128,9 @@ impl Table {
 
     /// The number of classes.
     pub(crate) fn classes(&self) -> usize
-        ensures { result ≡ array_vec_len self.now.lanes }
+        ensures { result ≡ self.now.classes }
     {
-        self.lanes.len()
+        self.classes
     }
 
     /// The steps taken.
@@ -128,8 +142,8 @@ impl Table {
 
     /// The newest published count of a class.
     pub(crate) fn published(&self, class: usize) -> i64
-        requires { class < array_vec_len self.now.lanes }
-        ensures { result ≡ (slice_index_or (lanes_of self.now.lanes.items) class empty_lane).published }
+        requires { class < self.now.classes }
+        ensures { result ≡ (slice_index_or (lanes_of (take self.now.classes self.now.lanes)) class empty_lane).published }
     {
         self.lanes[class].published
     }
@@ -145,16 +159,16 @@ impl Table {
     )
         requires room { self.old.steps < 1024 }
         requires back { back ≤ self.old.steps }
-        requires whole { length row.now ≡ array_vec_len self.old.lanes }
+        requires whole { length row.now ≡ self.old.classes }
         requires small { All (λ n. n ≤ 1000) row.now }
         requires enough { length row.now ≤ length (T.cells tape.old) }
-        ensures numbers { (array_vec_len self.new.lanes ≡ array_vec_len self.old.lanes) × (self.new.steps ≡ self.old.steps + 1) }
-        ensures lanes { lanes_of self.new.lanes.items ≡ published_by (F.says finisher.old) 0 (advanced_by back self.old.lanes.items row.now (T.cells tape.old)) }
+        ensures numbers { (self.new.classes ≡ self.old.classes) × (self.new.steps ≡ self.old.steps + 1) }
+        ensures lanes { lanes_of (take self.new.classes self.new.lanes) ≡ published_by (F.says finisher.old) 0 (advanced_by back (take self.old.classes self.old.lanes) row.now (T.cells tape.old)) }
         ensures drawn { T.cells tape.new ≡ drop (length row.now) (T.cells tape.old) }
-        ensures finished { F.says finisher.new ≡ says_after (F.says finisher.old) 0 (map release (advanced_by back self.old.lanes.items row.now (T.cells tape.old))) }
+        ensures finished { F.says finisher.new ≡ says_after (F.says finisher.old) 0 (map release (advanced_by back (take self.old.classes self.old.lanes) row.now (T.cells tape.old))) }
     {
-        for (class, lane) in self.lanes.iter_mut().enumerate() {
-            let cell = tape.draw().unwrap();
+        for (class, lane) in self.lanes[..self.classes].iter_mut().enumerate() {
+            let cell = next_cell(tape);
             // by the class: over a zip of these lanes with the row the check learns nothing of what is written
             lane.advance(back, row[class], cell);
             let release = lane.release();

@@ -36,6 +36,6 @@ pub returns : goal.returns
 returns g c =
     let s = view_of g.P.Plan.back g.T.Tape.cells g.F.Finisher.says c.args.self.now.station in
     let all = c.requires.all in
-    let same : c.loop-class.class ≡ array_vec_len c.args.self.now.station.table.lanes = omega arith in
+    let same : c.loop-class.class ≡ c.args.self.now.station.table.classes = omega arith in
     stored-all (λ class. (model.lane_at s class).published) c.loop-class.class c.loop-class.counts.items c.loop-class.invariant
     ∙ ap (λ (n : ℕ). map (λ class. (model.lane_at s class).published) (range_with_len 0 n)) same
